@@ -1,0 +1,5 @@
+pub mod Fields
+pub mod Reader
+pub mod Record
+pub mod RoundTrip
+pub mod Writer

@@ -1,0 +1,4 @@
+pub mod DigitSteps
+pub mod HexSteps
+pub mod LineSteps
+pub mod WordMeanings

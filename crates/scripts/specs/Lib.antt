@@ -1,0 +1,5 @@
+pub mod Decimals
+pub mod Hexadecimals
+pub mod Lines
+pub mod Meanings
+pub mod Postings
