@@ -17,11 +17,16 @@ use std::alloc::Global;
 use std::io;
 use std::io::Write;
 
-fn show_refusal(out: &mut Output, refusal: Refusal) -> io::Result<()> {
+pub fn show_refusal(out: &mut Output, refusal: Refusal) -> io::Result<()> {
     let number = refusal.number();
     let layer = refusal.layer();
     let place = refusal.place();
     writeln!(out, "refused {number} {layer} {place}")
+}
+
+pub fn show_keyed(out: &mut Output, keyed: bool) -> io::Result<()> {
+    let answer = if keyed { "yes" } else { "no" };
+    writeln!(out, "{answer}")
 }
 
 fn show_event<V: ScriptValue>(out: &mut Output, event: &Event<V>) -> io::Result<()> {

@@ -1,4 +1,5 @@
 pub mod DigitSteps
 pub mod HexSteps
 pub mod LineSteps
+pub mod PlaceSteps
 pub mod WordMeanings

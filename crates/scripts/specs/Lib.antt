@@ -3,3 +3,4 @@ pub mod Hexadecimals
 pub mod Lines
 pub mod Meanings
 pub mod Postings
+pub mod Scripts

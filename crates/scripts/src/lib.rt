@@ -1,25 +1,29 @@
-// The text of a script: the words of a line as a command, words as values, and values as words.
-mod command;
-mod decimal;
+// The text of a script: its lines, their words, words as values and events, and values and events as words.
+pub mod decimal;
 mod hexadecimal;
 mod line;
-mod misfit;
-mod parse;
+pub mod misfit;
 mod posting;
+pub mod script;
 mod text;
 mod value;
 
-pub use command::Command;
+pub use decimal::byte;
+pub use decimal::room;
 pub use hexadecimal::Hex;
 pub use hexadecimal::HexDisplay;
+pub use hexadecimal::bytes_of;
 pub use line::Line;
 pub use line::ValueKind;
 pub use line::line_of;
 pub use line::words_of;
 pub use misfit::Misfit;
-pub use parse::command_of;
+pub use misfit::MisfitFromAlloc;
+pub use misfit::MisfitFromRefused;
 pub use posting::Posting;
 pub use posting::PostingDisplay;
+pub use posting::event_of;
+pub use script::Script;
 pub use text::MisfitDisplay;
 pub use text::ValueKindDisplay;
 pub use value::NumberScript;

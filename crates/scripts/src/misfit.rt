@@ -34,6 +34,20 @@ pub enum Misfit {
     NoSuchField,
     // An event has one value in a field.
     FieldGivenTwice,
+    // A state's marks are `init`, `always`, `hot`, `step` and `next`.
+    NotAMark,
+    // A cell wants `any`, `constant`, `own`, `bind` or `slot`.
+    NotACell,
+    // An argument is `any`, or `c`, `p` or `s` with a number.
+    NotAnArgument,
+    // A state has at most 3 parameters.
+    TooManyArguments,
+    // Event kinds are numbered from 0 to 63.
+    NoSuchKind,
+    // A line about a row stands before any `row`.
+    NoRow,
+    // A row has at most 4 cells, 2 conditions and 4 entries.
+    RowFull,
     // There was no memory to handle the line.
     NoMemory,
 }

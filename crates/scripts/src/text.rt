@@ -32,6 +32,13 @@ fn reason(misfit: Misfit) -> &'static str {
         Misfit::NotAField => "not a field",
         Misfit::NoSuchField => "no such field",
         Misfit::FieldGivenTwice => "field given twice",
+        Misfit::NotAMark => "not a mark",
+        Misfit::NotACell => "not a cell",
+        Misfit::NotAnArgument => "not an argument",
+        Misfit::TooManyArguments => "too many arguments",
+        Misfit::NoSuchKind => "no such kind",
+        Misfit::NoRow => "no row yet",
+        Misfit::RowFull => "no room in the row",
         Misfit::NoMemory => "no memory",
     }
 }

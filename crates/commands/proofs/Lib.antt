@@ -1,0 +1,3 @@
+pub mod MarkSteps
+pub mod TableCopies
+pub mod WordCounts

@@ -1,0 +1,7 @@
+pub mod Building
+pub mod Cells
+pub mod Counts
+pub mod Patterns
+pub mod RowLines
+pub mod States
+pub mod Tabling

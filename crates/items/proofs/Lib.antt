@@ -1,0 +1,5 @@
+pub mod Ascending
+pub mod Found
+pub mod Next
+pub mod Orders
+pub mod Rules

@@ -1,0 +1,15 @@
+pub mod Balance
+pub mod Effect
+pub mod Exact
+pub mod Facts
+pub mod Likeness
+pub mod Lists
+pub mod Mixed
+pub mod Onward
+pub mod Runs
+pub mod Sets
+pub mod Shelving
+pub mod Slice
+pub mod Stands
+pub mod Totals
+pub mod Worked

@@ -1,0 +1,9 @@
+pub mod Book
+pub mod Cases
+pub mod Keys
+pub mod Kinds
+pub mod Law
+pub mod Records
+pub mod Report
+pub mod Step
+pub mod Wire
