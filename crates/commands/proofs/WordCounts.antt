@@ -8,13 +8,12 @@ use lib.Utf8.{encodes, scalars}
 use mathlib.Core.Bool.{true}
 use denote.Ref.{RefT}
 use Rattle.std.proofs.shelf.Text.{lead-after-ascii}
-use Rattle.std.specs.declared.result.Result.the-variants.{Ok, Err}
-use Rattle.scripts.specs.declared.misfit.Misfit.the-variants.{MissingWord, TooManyWords}
+use Rattle.std.specs.declared.result.Result.the-variants.{Err}
+use Rattle.scripts.specs.declared.misfit.Misfit.the-variants.{MissingWord, TooManyArguments, TooManyWords}
 use Rattle.scripts.specs.Lines.{texts}
-use Rattle.commands.specs.Counts.{noWords, onlyWord}
+use Rattle.commands.specs.Counts.{noWords, onlyWord, twoBytes}
 use Rattle.commands.specs.Cells.{cellIn}
 use Rattle.commands.specs.Patterns.{argumentsIn}
-use Rattle.scripts.specs.declared.misfit.Misfit.the-variants as misfit
 
 abbrev pub noWord : RefT (List ℕ)
 noWord = record { ptr = (0, 0); name = 0; now = [] }
@@ -61,7 +60,18 @@ many-words [] h = absurd (omega (arith, h))
 many-words (w ∷ []) h = absurd (omega (arith, h))
 many-words (w ∷ (x ∷ ws)) h = refl
 
-pub many-arguments : (ws : List (RefT (List ℕ))) → 4 ≤ length ws → argumentsIn (texts ws) ≡ Err misfit.TooManyArguments
+pub short-pair : (ws : List (RefT (List ℕ))) → length ws < 2 → twoBytes (texts ws) ≡ Err MissingWord
+short-pair [] h = refl
+short-pair (w ∷ []) h = refl
+short-pair (w ∷ (x ∷ ws)) h = absurd (omega (arith, h))
+
+pub long-pair : (ws : List (RefT (List ℕ))) → 3 ≤ length ws → twoBytes (texts ws) ≡ Err TooManyWords
+long-pair [] h = absurd (omega (arith, h))
+long-pair (w ∷ []) h = absurd (omega (arith, h))
+long-pair (w ∷ (x ∷ [])) h = absurd (omega (arith, h))
+long-pair (w ∷ (x ∷ (y ∷ ws))) h = refl
+
+pub many-arguments : (ws : List (RefT (List ℕ))) → 4 ≤ length ws → argumentsIn (texts ws) ≡ Err TooManyArguments
 many-arguments [] h = absurd (omega (arith, h))
 many-arguments (w ∷ []) h = absurd (omega (arith, h))
 many-arguments (w ∷ (x ∷ [])) h = absurd (omega (arith, h))

@@ -1,6 +1,6 @@
 -- What the lines that build tables make of them.
-use mathlib.Core.List.{List, [], _∷_, _++_}
-use mathlib.Core.Bool.{Bool, true, not, cond}
+use mathlib.Core.List.{List}
+use mathlib.Core.Bool.{true, not, cond}
 use Prim.Native.Nat.{ℕ, _-_}
 use lib.Dec.{eqb, ltb}
 use lib.ListN.{length, getD, set, replicate}
@@ -11,14 +11,12 @@ use Rattle.std.specs.declared.result.Result.{Result}
 use Rattle.std.specs.declared.result.Result.the-variants.{Ok, Err}
 use Rattle.sheets.specs.declared.tables.EventKind.{EventKind}
 use Rattle.sheets.specs.declared.tables.Row.{Row}
-use Rattle.sheets.specs.Tables.{SheetModel, kindOf, sheetOf, unwatched}
+use Rattle.sheets.specs.Tables.{kindOf}
 use Rattle.scripts.specs.Scripts.{firstWhere}
 use Rattle.scripts.specs.declared.misfit.Misfit.{Misfit}
 use Rattle.scripts.specs.declared.misfit.Misfit.the-variants.{NoRow, NoSuchKind, RowFull}
 use Rattle.commands.specs.declared.tableline.RowLine.{RowLine}
 use Rattle.commands.specs.declared.tableline.RowLine.the-variants as part
-use Rattle.commands.specs.declared.tableline.TableLine.{TableLine}
-use Rattle.commands.specs.declared.tableline.TableLine.the-variants as line
 
 module _ {X : Type 0} where
   -- the number of the first free place

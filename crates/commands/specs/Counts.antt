@@ -21,3 +21,16 @@ onlyWord (word ∷ (more ∷ rest)) = Err TooManyWords
 abbrev pub onlyByte : Result (List ℕ) Misfit → Result ℕ Misfit
 onlyByte (Ok word) = byteIn (numberIn word)
 onlyByte (Err e) = Err e
+
+-- two bytes
+abbrev pub pairOf : Result ℕ Misfit → Result ℕ Misfit → Result (ℕ × ℕ) Misfit
+pairOf (Ok a) (Ok b) = Ok (a, b)
+pairOf (Ok a) (Err e) = Err e
+pairOf (Err e) b = Err e
+
+-- the bytes that the two words write
+abbrev pub twoBytes : List (List ℕ) → Result (ℕ × ℕ) Misfit
+twoBytes [] = Err MissingWord
+twoBytes (first ∷ []) = Err MissingWord
+twoBytes (first ∷ (second ∷ [])) = pairOf (byteIn (numberIn first)) (byteIn (numberIn second))
+twoBytes (first ∷ (second ∷ (more ∷ rest))) = Err TooManyWords

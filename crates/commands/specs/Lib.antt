@@ -4,4 +4,5 @@ pub mod Counts
 pub mod Patterns
 pub mod RowLines
 pub mod States
+pub mod TableLines
 pub mod Tabling

@@ -8,8 +8,9 @@ use Rattle.std.specs.declared.result.Result.{Result}
 use Rattle.std.specs.declared.result.Result.the-variants.{Ok, Err}
 use Rattle.sheets.specs.declared.tables.State.{State}
 use Rattle.sheets.specs.Words.{every, some}
+use Rattle.scripts.specs.Decimals.{byteIn, numberIn}
 use Rattle.scripts.specs.declared.misfit.Misfit.{Misfit}
-use Rattle.scripts.specs.declared.misfit.Misfit.the-variants.{NotAMark}
+use Rattle.scripts.specs.declared.misfit.Misfit.the-variants.{MissingWord, NotAMark}
 
 -- a word is one of some words
 abbrev pub isAmong : List ℕ → List (List ℕ) → Bool
@@ -25,3 +26,7 @@ marked n words = cond (every isMark words) (Ok (record { parameters = n; init = 
 abbrev pub stateIn : Result ℕ Misfit → List (List ℕ) → Result State Misfit
 stateIn (Ok n) words = marked n words
 stateIn (Err e) words = Err e
+
+abbrev pub stateWords : List (List ℕ) → Result State Misfit
+stateWords [] = Err MissingWord
+stateWords (word ∷ rest) = stateIn (byteIn (numberIn word)) rest

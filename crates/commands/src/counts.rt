@@ -2,7 +2,8 @@
 ghost use mathlib.Core.Path.{_≡_};
 ghost use Rattle.std.specs.Results.{Cases};
 ghost use Rattle.std.specs.declared.result.Result.the-variants.{Ok, Err};
-ghost use Rattle.commands.specs.Counts.{noWords, onlyByte, onlyWord};
+ghost use Rattle.commands.specs.Counts.{noWords, onlyByte, onlyWord, pairOf, twoBytes};
+ghost use Rattle.scripts.specs.Decimals.{byteIn, numberIn};
 ghost use Rattle.scripts.specs.Lines.{texts};
 use scripts::Misfit;
 use scripts::byte;
@@ -35,11 +36,20 @@ pub fn only_byte(words: &[&str]) -> Result<u8, Misfit>
     byte(only_word(words)?)
 }
 
-// The bytes that two words write.
-pub fn two_bytes(words: &[&str]) -> Result<(u8, u8), Misfit> {
+// The bytes of two words.
+fn pair(first: &str, second: &str) -> Result<(u8, u8), Misfit>
+    ensures { λ r. ⌜ r ≡ pairOf (byteIn (numberIn (now (first .entry)))) (byteIn (numberIn (now (second .entry)))) ⌝ }
+{
+    Ok((byte(first)?, byte(second)?))
+}
+
+// The bytes that the two words write.
+pub fn two_bytes(words: &[&str]) -> Result<(u8, u8), Misfit>
+    ensures { λ r. ⌜ r ≡ twoBytes (texts (now (words .entry))) ⌝ }
+{
     match words {
-        [] | [_] => Err(Misfit::MissingWord),
-        [first, second] => Ok((byte(first)?, byte(second)?)),
-        _ => Err(Misfit::TooManyWords),
+        [first, second] => pair(first, second),
+        [_, _, ..] => Err(Misfit::TooManyWords),
+        _ => Err(Misfit::MissingWord),
     }
 }

@@ -8,10 +8,11 @@ mod marks;
 mod parse;
 mod patterns;
 mod places;
-mod rowlines;
+mod rows;
 mod rowwords;
 pub mod tableline;
 pub mod tables;
+mod tablewords;
 
 pub use command::Command;
 pub use parse::command_of;

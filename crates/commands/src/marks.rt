@@ -4,7 +4,7 @@ ghost use Rattle.std.specs.shelf.Text.{sameBytes};
 ghost use Rattle.sheets.specs.Words.{every};
 ghost use Rattle.scripts.specs.Decimals.{byteIn, numberIn};
 ghost use Rattle.scripts.specs.Lines.{texts};
-ghost use Rattle.commands.specs.States.{isAmong, isMark, marked, stateIn};
+ghost use Rattle.commands.specs.States.{isAmong, isMark, marked, stateIn, stateWords};
 use scripts::Misfit;
 use scripts::byte;
 use sheets::State;
@@ -67,9 +67,19 @@ fn with_marks(parameters: u8, marks: &[&str]) -> Result<State, Misfit>
     })
 }
 
-// The state that a number of parameters and some marks say.
-pub fn state_of(parameters: &str, marks: &[&str]) -> Result<State, Misfit>
+// The state of a number of parameters and some marks.
+fn with_number(parameters: &str, marks: &[&str]) -> Result<State, Misfit>
     ensures { λ r. ⌜ r ≡ stateIn (byteIn (numberIn (now (parameters .entry)))) (texts (now (marks .entry))) ⌝ }
 {
     with_marks(byte(parameters)?, marks)
+}
+
+// The state that some words write.
+pub fn state_of(words: &[&str]) -> Result<State, Misfit>
+    ensures { λ r. ⌜ r ≡ stateWords (texts (now (words .entry))) ⌝ }
+{
+    match words {
+        [] => Err(Misfit::MissingWord),
+        [parameters, marks @ ..] => with_number(parameters, marks),
+    }
 }

@@ -1,12 +1,9 @@
 // The words of a line as a command.
 use crate::command::Command;
 use crate::counts::no_words;
-use crate::counts::only_byte;
 use crate::counts::only_word;
-use crate::counts::two_bytes;
-use crate::marks::state_of;
-use crate::rowwords::row_line;
 use crate::tableline::TableLine;
+use crate::tablewords::table_line;
 use scripts::Misfit;
 use scripts::ScriptValue;
 use scripts::bytes_of;
@@ -18,54 +15,6 @@ use std::alloc::Global;
 fn bare<V: Copy>(command: Command<V>, words: &[&str]) -> Result<Command<V>, Misfit> {
     no_words(words)?;
     Ok(command)
-}
-
-// `state PARAMS MARK..`
-fn state<V>(words: &[&str]) -> Result<TableLine<V>, Misfit> {
-    match words {
-        [] => Err(Misfit::MissingWord),
-        [parameters, marks @ ..] => Ok(TableLine::State(state_of(parameters, marks)?)),
-    }
-}
-
-// `constant V`
-fn constant<V: ScriptValue>(heap: Global, words: &[&str]) -> Result<TableLine<V>, Misfit> {
-    Ok(TableLine::Constant(V::of_word(heap, only_word(words)?)?))
-}
-
-// `watch KIND`
-fn watch<V>(words: &[&str]) -> Result<TableLine<V>, Misfit> {
-    Ok(TableLine::Watch {
-        kind: only_byte(words)?,
-    })
-}
-
-// `key KIND FIELD`
-fn key<V>(words: &[&str]) -> Result<TableLine<V>, Misfit> {
-    let (kind, field) = two_bytes(words)?;
-    Ok(TableLine::Key { kind, field })
-}
-
-// `row SOURCE KIND`
-fn row<V>(words: &[&str]) -> Result<TableLine<V>, Misfit> {
-    let (source, kind) = two_bytes(words)?;
-    Ok(TableLine::Row { source, kind })
-}
-
-// The line that builds tables, by its first word and those behind it.
-fn table_line<V: ScriptValue>(
-    heap: Global,
-    word: &str,
-    rest: &[&str],
-) -> Result<TableLine<V>, Misfit> {
-    match word {
-        "state" => state(rest),
-        "constant" => constant(heap, rest),
-        "watch" => watch(rest),
-        "key" => key(rest),
-        "row" => row(rest),
-        _ => Ok(TableLine::InRow(row_line(word, rest)?)),
-    }
 }
 
 // `read HEX`; `read` alone reads the empty batch.

@@ -4,7 +4,6 @@ ghost use Rattle.scripts.specs.Lines.{texts};
 ghost use Rattle.commands.specs.Patterns.{patternIn};
 ghost use Rattle.commands.specs.RowLines.{askIn, bareIn, conditionIn, rowLineIn, strikeIn};
 ghost use Rattle.commands.specs.Counts.{noWords};
-ghost use Rattle.sheets.specs.declared.tables.Entry.{Entry};
 use crate::cells::cell;
 use crate::counts::no_words;
 use crate::patterns::pattern;

@@ -1,6 +1,5 @@
 // A script: its lines, given out one by one.
 ghost use mathlib.Core.Path.{_≡_};
-ghost use mathlib.Core.Bool.{cond};
 ghost use Prim.Native.Nat.{_+_, _≤_};
 ghost use lib.Dec.{ltb};
 ghost use lib.ListN.{length, take, drop};
@@ -58,7 +57,7 @@ impl<'a> Script<'a> {
         self.given
     }
 
-    // At most as many lines as are to come.
+    // There are at most so many lines to come.
     pub fn most_lines(&self) -> usize
         ensures { λ r. ⌜ r ≡ length (now (now (self .entry) .left)) ⌝ }
     {

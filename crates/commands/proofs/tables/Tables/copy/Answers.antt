@@ -1,5 +1,4 @@
-use mathlib.Core.Path.{_≡_, _∙_}
-use Rattle.std.specs.Of.Vec.{vec-items}
+use mathlib.Core.Path.{_∙_}
 use Rattle.commands.proofs.TableCopies.{same-tables}
 use Rattle.commands.proofs.tables.Tables.copy.Needs as need
 
