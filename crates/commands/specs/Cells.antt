@@ -39,6 +39,7 @@ cellOf (Ok n) (Ok w) = Ok (record { field = n; want = w })
 cellOf (Ok n) (Err e) = Err e
 cellOf (Err e) w = Err e
 
+-- a field, and then what is wanted of it
 abbrev pub cellIn : List (List ℕ) → Result Cell Misfit
 cellIn [] = Err MissingWord
 cellIn (field ∷ []) = Err MissingWord

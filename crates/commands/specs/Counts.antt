@@ -7,6 +7,7 @@ use Rattle.scripts.specs.declared.misfit.Misfit.{Misfit}
 use Rattle.scripts.specs.declared.misfit.Misfit.the-variants.{MissingWord, TooManyWords}
 use Rattle.scripts.specs.Decimals.{byteIn, numberIn}
 
+-- there is no word
 abbrev pub noWords : List (List ℕ) → Result (Unit {0}) Misfit
 noWords [] = Ok tt
 noWords (word ∷ rest) = Err TooManyWords

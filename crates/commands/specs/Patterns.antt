@@ -26,18 +26,22 @@ asArgument f (Err e) = Err e
 abbrev pub lettered : ℕ → Result ℕ Misfit → Result Argument Misfit
 lettered letter n = cond (eqb letter 99) (asArgument argument.Constant n) (cond (eqb letter 112) (asArgument argument.Own n) (cond (eqb letter 115) (asArgument argument.Slot n) (Err NotAnArgument)))
 
+-- the argument that a word says
 abbrev pub argumentIn : List ℕ → Result Argument Misfit
 argumentIn word = cond (sameBytes word (codes "any")) (Ok argument.Any) (lettered (getD word 0 0) (byteIn (numberIn (drop 1 word))))
 
+-- one argument
 abbrev pub oneOf : Result Argument Misfit → Result Arguments Misfit
 oneOf (Ok a) = Ok (One a)
 oneOf (Err e) = Err e
 
+-- two arguments
 abbrev pub twoOf : Result Argument Misfit → Result Argument Misfit → Result Arguments Misfit
 twoOf (Ok a) (Ok b) = Ok (Two a b)
 twoOf (Ok a) (Err e) = Err e
 twoOf (Err e) b = Err e
 
+-- three arguments
 abbrev pub threeOf : Result Argument Misfit → Result Argument Misfit → Result Argument Misfit → Result Arguments Misfit
 threeOf (Ok a) (Ok b) (Ok c) = Ok (Three a b c)
 threeOf (Ok a) (Ok b) (Err e) = Err e
@@ -58,6 +62,7 @@ patternOf (Ok n) (Ok as′) = Ok (record { state = n; arguments = as′ })
 patternOf (Ok n) (Err e) = Err e
 patternOf (Err e) as′ = Err e
 
+-- a state, and then its arguments
 abbrev pub patternIn : List (List ℕ) → Result Pattern Misfit
 patternIn [] = Err MissingWord
 patternIn (word ∷ rest) = patternOf (byteIn (numberIn word)) (argumentsIn rest)

@@ -18,22 +18,27 @@ use Rattle.commands.specs.Cells.{cellIn}
 use Rattle.commands.specs.Counts.{noWords}
 use Rattle.commands.specs.Patterns.{patternIn}
 
+-- a line with a cell
 abbrev pub cellLine : Result Cell Misfit → Result RowLine Misfit
 cellLine (Ok c) = Ok (line.Cell c)
 cellLine (Err e) = Err e
 
+-- a line with a condition, negated or not
 abbrev pub conditionIn : Bool → Result Pattern Misfit → Result RowLine Misfit
 conditionIn n (Ok x) = Ok (line.Condition (record { negated = n; pattern = x }))
 conditionIn n (Err e) = Err e
 
+-- a line with an entry that takes no words
 abbrev pub bareIn : Entry → Result (Unit {0}) Misfit → Result RowLine Misfit
 bareIn y (Ok u) = Ok (line.Entry y)
 bareIn y (Err e) = Err e
 
+-- a line with an ask
 abbrev pub askIn : Result Pattern Misfit → Result RowLine Misfit
 askIn (Ok x) = Ok (line.Entry (entry.Ask x))
 askIn (Err e) = Err e
 
+-- a line with a strike
 abbrev pub strikeIn : Result Pattern Misfit → Result RowLine Misfit
 strikeIn (Ok x) = Ok (line.Entry (entry.Strike x))
 strikeIn (Err e) = Err e

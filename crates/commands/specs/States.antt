@@ -16,6 +16,7 @@ use Rattle.scripts.specs.declared.misfit.Misfit.the-variants.{MissingWord, NotA
 abbrev pub isAmong : List ℕ → List (List ℕ) → Bool
 isAmong word words = some (sameBytes word) words
 
+-- one of the five marks
 abbrev pub isMark : List ℕ → Bool
 isMark word = sameBytes word (codes "init") || (sameBytes word (codes "always") || (sameBytes word (codes "hot") || (sameBytes word (codes "step") || sameBytes word (codes "next"))))
 
@@ -23,10 +24,12 @@ isMark word = sameBytes word (codes "init") || (sameBytes word (codes "always") 
 abbrev pub marked : ℕ → List (List ℕ) → Result State Misfit
 marked n words = cond (every isMark words) (Ok (record { parameters = n; init = isAmong (codes "init") words; always = isAmong (codes "always") words; hot = isAmong (codes "hot") words; step = isAmong (codes "step") words; next = isAmong (codes "next") words })) (Err NotAMark)
 
+-- so many parameters, and then the marks
 abbrev pub stateIn : Result ℕ Misfit → List (List ℕ) → Result State Misfit
 stateIn (Ok n) words = marked n words
 stateIn (Err e) words = Err e
 
+-- the state that the words behind `state` say
 abbrev pub stateWords : List (List ℕ) → Result State Misfit
 stateWords [] = Err MissingWord
 stateWords (word ∷ rest) = stateIn (byteIn (numberIn word)) rest

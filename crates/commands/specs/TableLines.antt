@@ -8,10 +8,12 @@ use Rattle.commands.specs.declared.tableline.TableLine.{TableLine}
 use Rattle.commands.specs.declared.tableline.TableLine.the-variants as line
 
 module _ {V : Type 0} where
+  -- a line with a state
   abbrev pub stateLine : Result State Misfit → Result (TableLine V) Misfit
   stateLine (Ok d) = Ok (line.State d)
   stateLine (Err e) = Err e
 
+  -- a line that watches a kind
   abbrev pub watchLine : Result ℕ Misfit → Result (TableLine V) Misfit
   watchLine (Ok k) = Ok (line.Watch k)
   watchLine (Err e) = Err e

@@ -15,9 +15,11 @@ use Rattle.commands.specs.declared.tables.Tables.{Tables}
 use Rattle.commands.specs.Building.{bareRow, keyedBy, kindFits, rowsWith, watchedToo}
 
 module _ {V : Type 0} where
+  -- the tables as those of a sheet
   abbrev pub tablesOf : Tables V → SheetModel V
   tablesOf t = sheetOf (vec-items (t .states)) (vec-items (t .rows)) (t .kinds) (vec-items (t .constants))
 
+  -- empty tables
   abbrev pub noTables : SheetModel V
   noTables = sheetOf [] [] (replicate 64 unwatched) []
 

@@ -8,6 +8,7 @@ use Rattle.std.specs.declared.cmp.Ordering.the-variants.{Less}
 use Rattle.std.specs.declared.option.Option.the-variants.{Some, None}
 use Rattle.items.specs.Ascending.{firstOf, ascends, held, placed, without}
 
+-- what putting in, taking out and looking for the next mean for who is held
 pub record SetMeaning {X : Type 0} (order : X → X → Ordering) : Type 0 where
   -- once x is put in, x is held, and what was held before
   pub put-in : (x z : X) (xs : List X) → held order z (placed order x xs) ≡ (isEq (order z x) || held order z xs)

@@ -25,6 +25,7 @@ module _ {V : Type 0} (written : V → Option (List ℕ)) (reads : List ℕ → 
   abbrev pub leaves : Event V → List ℕ → Write
   leaves e lent = writes (eventBytes written e) lent
 
+  -- the law of reading and writing
   pub record RoundTrip : Type 0 where
     -- the n bytes that were written, behind any bytes and before any others, read back to the event and their length
     pub back : (e : Event V) (lent front rest : List ℕ) (n : ℕ) → leaves e lent .answer ≡ Ok n → Bytes (front ++ (take n (leaves e lent .buffer) ++ rest)) → nextAt reads (front ++ (take n (leaves e lent .buffer) ++ rest)) (length front) ≡ reading e (length front + n)

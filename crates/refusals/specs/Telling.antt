@@ -26,6 +26,7 @@ layerText Record = codes "record"
 layerText Book = codes "book"
 layerText Shelf = codes "shelf"
 
+-- a number, a layer and a place
 abbrev pub telling : ℕ → Layer → ℕ → Told
 telling n l p = record { number = n; layer = l; place = p }
 

@@ -19,7 +19,8 @@ use Rattle.refusals.specs.declared.refusal.Refusal.the-variants.{WrongPhase}
 use Rattle.records.specs.declared.event.Event.{Event}
 use Rattle.items.specs.declared.item.Item.{Item}
 use Rattle.sheets.specs.Tables.{SheetModel}
-use Rattle.rules.specs.Book.{BookModel, Alike, Turn, Opening, Putting, Batching, Ending, Listing, Tallying, Call, ToOpen, ToPut, ToBatch, ToEnd, ToList, ToTally, callOf, OpenOutcome, EventOutcome, EndOutcome, laid, listedIn, isOpen, isBlank, unless, onResult, refusedPut, madeBook, initItems, startedBy, openRefusal, openedBook, openOutcome, findingsAt, took, earlyRefusal, lateRefusal, acceptedPut, filledPad, putOutcome, stopped, oneMore, batchFrom, batchOutcome, closings, endRefusal, endedBook, endOutcome, tallyBack, Replied, bookAfter}
+use Rattle.values.specs.Form.{filled}
+use Rattle.rules.specs.Book.{BookModel, Alike, Turn, Opening, Putting, Batching, Ending, Listing, Tallying, Call, ToOpen, ToPut, ToBatch, ToEnd, ToList, ToTally, callOf, OpenOutcome, EventOutcome, EndOutcome, listedIn, isOpen, isBlank, unless, onResult, refusedPut, madeBook, initItems, startedBy, openRefusal, openedBook, openOutcome, findingsAt, took, earlyRefusal, lateRefusal, acceptedPut, filledPad, putOutcome, stopped, oneMore, batchFrom, batchOutcome, closings, endRefusal, endedBook, endOutcome, tallyBack, Replied, bookAfter}
 use Rattle.rules.specs.Kinds.{ValueKind}
 use Rattle.rules.specs.Law.{onOk, opens, ends, accepts, putWrote, endWrote, isOpened, isEnded, acceptedEvents, putFindings, endFindings, findingsWritten, Use, made, called, settled, ruledFindings, countOver}
 use Rattle.rules.specs.Records.{Records, done, stop, one, eventsIn, recordsAt}
@@ -46,8 +47,8 @@ take-exact : {X : Type 0} (us vs : List X) → take (length us) (us ++ vs) ≡ u
 take-exact [] vs = refl
 take-exact (u ∷ us) vs = ap (λ r. u ∷ r) (take-exact us vs)
 
-pub take-laid : {X : Type 0} (xs ys : List X) → take (length xs) (laid xs ys) ≡ xs
-take-laid xs ys = take-exact xs (drop (length xs) ys)
+pub take-filled : {X : Type 0} (xs ys : List X) → take (length xs) (filled xs ys) ≡ xs
+take-filled xs ys = take-exact xs (drop (length xs) ys)
 
 module _ {V : Type 0} (K : ValueKind V) (s : SheetModel V) where
   -- one more event at the end of a run
@@ -110,14 +111,14 @@ module _ {V : Type 0} (K : ValueKind V) (s : SheetModel V) where
   batching limit es fs cl b pad roll (stop q) r = rw (append-nil es, append-nil fs) r
   batching limit es fs cl b pad roll (one place e more) r =
       go (earlyRefusal place b e) (lateRefusal K s place b e pad roll)
-      (batching limit (es ++ e ∷ []) (fs ++ new) cl (took K s e b) (laid (movesAt K s (b .items) e) pad) (drop (length new) (laid new roll))
+      (batching limit (es ++ e ∷ []) (fs ++ new) cl (took K s e b) (filled (movesAt K s (b .items) e) pad) (drop (length new) (filled new roll))
       more (taking limit es fs cl b e r))
     where
       new : List (Finding V)
       new = findingsAt K s (b .accepted + 1) (b .items) e
 
       rest : EventOutcome V Batched
-      rest = batchFrom K s (took K s e b) (laid (movesAt K s (b .items) e) pad) (drop (length new) (laid new roll)) more
+      rest = batchFrom K s (took K s e b) (filled (movesAt K s (b .items) e) pad) (drop (length new) (filled new roll)) more
 
       es′ : (es ++ e ∷ []) ++ take (rest .back .accepted) (eventsIn more) ≡ es ++ take (1 + rest .back .accepted) (e ∷ eventsIn more)
       es′ =
@@ -125,11 +126,11 @@ module _ {V : Type 0} (K : ValueKind V) (s : SheetModel V) where
           ∙ ap (λ m. es ++ take m (e ∷ eventsIn more)) (sym (one-add (rest .back .accepted)))
 
       fs′ : (fs ++ new) ++ take (rest .back .findings) (rest .roll)
-          ≡ fs ++ take (length new + rest .back .findings) (take (length new) (laid new roll) ++ rest .roll)
+          ≡ fs ++ take (length new + rest .back .findings) (take (length new) (filled new roll) ++ rest .roll)
       fs′ =
           append-assoc fs new (take (rest .back .findings) (rest .roll))
           ∙ (ap (λ xs. fs ++ xs) (sym (take-front new (rest .roll) (rest .back .findings)))
-          ∙ ap (λ xs. fs ++ take (length new + rest .back .findings) (xs ++ rest .roll)) (sym (take-laid new roll)))
+          ∙ ap (λ xs. fs ++ take (length new + rest .back .findings) (xs ++ rest .roll)) (sym (take-filled new roll)))
 
       put : Option Refusal → Option Refusal → EventOutcome V (Result Accepted Refusal)
       put o p = unless o (refusedPut pad roll b) (unless p (refusedPut (filledPad K s b e pad) roll b) (acceptedPut K s b e pad roll))
@@ -147,7 +148,7 @@ module _ {V : Type 0} (K : ValueKind V) (s : SheetModel V) where
           subst
           (λ xs.
           Running limit false xs
-          (fs ++ take (length new + rest .back .findings) (take (length new) (laid new roll) ++ rest .roll))
+          (fs ++ take (length new + rest .back .findings) (take (length new) (filled new roll) ++ rest .roll))
           cl (rest .book))
           es′
           (subst (λ xs. Running limit false ((es ++ e ∷ []) ++ take (rest .back .accepted) (eventsIn more)) xs cl (rest .book)) fs′ later)
@@ -218,10 +219,10 @@ module _ {V : Type 0} (K : ValueKind V) (s : SheetModel V) where
     putting : (o en : Bool) (es : List (Event V)) (fs cl : List (Finding V)) (b : BookModel V) (e : Event V) (roll : List (Finding V))
         → Standing o en es fs cl b → isOpen (b .phase) ≡ true
         → let new = findingsAt K s (b .accepted + 1) (b .items) e in
-        Standing o en (es ++ e ∷ []) (fs ++ take (length new) (laid new roll)) (cl ++ []) (took K s e b)
+        Standing o en (es ++ e ∷ []) (fs ++ take (length new) (filled new roll)) (cl ++ []) (took K s e b)
     putting false en es fs cl b e roll h i = absurd (false≢true (rw (h .4 .phase) at i))
     putting true false es fs cl b e roll h i =
-        rw (append-nil cl, take-laid (findingsAt K s (b .accepted + 1) (b .items) e) roll) (taking limit es fs cl b e h)
+        rw (append-nil cl, take-filled (findingsAt K s (b .accepted + 1) (b .items) e) roll) (taking limit es fs cl b e h)
     putting true true es fs cl b e roll h i = absurd (false≢true (rw (h .phase) at i))
 
     all-putting : (o en : Bool) (es : List (Event V)) (fs cl : List (Finding V)) (b : BookModel V) (pad : List (Move V)) (roll : List (Finding V)) (rs : Records V)
@@ -235,12 +236,12 @@ module _ {V : Type 0} (K : ValueKind V) (s : SheetModel V) where
     ending : (o en : Bool) (es : List (Event V)) (fs cl : List (Finding V)) (b : BookModel V) (roll : List (Finding V))
         → Standing o en es fs cl b → isOpen (b .phase) ≡ true
         → let new = closings s (b .accepted) (b .items) in
-        Standing o true (es ++ []) (fs ++ []) (cl ++ take (length new) (laid new roll)) (endedBook b)
+        Standing o true (es ++ []) (fs ++ []) (cl ++ take (length new) (filled new roll)) (endedBook b)
     unfolding endedBook
     ending false en es fs cl b roll h i = absurd (false≢true (rw (h .4 .phase) at i))
     ending true false es fs cl b roll h i =
         rw
-        (append-nil es, append-nil fs, take-laid (closings s (b .accepted) (b .items)) roll)
+        (append-nil es, append-nil fs, take-filled (closings s (b .accepted) (b .items)) roll)
         (record {
           limit = h .limit;
           phase = refl;
@@ -304,7 +305,7 @@ module _ {V : Type 0} (K : ValueKind V) (s : SheetModel V) where
         out r =
             unless r
             (λ x. record { back = Err x; roll = roll; book = b })
-            (record { back = Ok (length new); roll = laid new roll; book = endedBook b })
+            (record { back = Ok (length new); roll = filled new roll; book = endedBook b })
 
         go : (r : Option Refusal) → endRefusal s b roll ≡ r
             → Standing o (isOk (out r .back) || en) (es ++ []) (fs ++ []) (cl ++ onOk (out r .back) (λ n. take n (out r .roll))) (out r .book)
@@ -419,7 +420,7 @@ module _ {V : Type 0} (K : ValueKind V) (s : SheetModel V) where
   batch-recount c b pad roll (stop q) = refl
   batch-recount c b pad roll (one place e more) =
       go (earlyRefusal place b e) (lateRefusal K s place b e pad roll)
-      (batch-recount (took K s e (recount c b) .counts) (took K s e b) (laid ms pad) rest more)
+      (batch-recount (took K s e (recount c b) .counts) (took K s e b) (filled ms pad) rest more)
     where
       ms : List (Move V)
       ms = movesAt K s (b .items) e
@@ -428,7 +429,7 @@ module _ {V : Type 0} (K : ValueKind V) (s : SheetModel V) where
       new = findingsAt K s (b .accepted + 1) (b .items) e
 
       rest : List (Finding V)
-      rest = drop (length new) (laid new roll)
+      rest = drop (length new) (filled new roll)
 
       out : BookModel V → Option Refusal → Option Refusal → EventOutcome V Batched
       out d o p =
@@ -441,13 +442,13 @@ module _ {V : Type 0} (K : ValueKind V) (s : SheetModel V) where
           (λ x. stopped (Some x) (putBy d e pad roll o p .pad) (putBy d e pad roll o p .roll) (putBy d e pad roll o p .book))
 
       go : (o p : Option Refusal)
-          → shown (batchFrom K s (recount (took K s e (recount c b) .counts) (took K s e b)) (laid ms pad) rest more)
-          ≡ shown (batchFrom K s (took K s e b) (laid ms pad) rest more)
+          → shown (batchFrom K s (recount (took K s e (recount c b) .counts) (took K s e b)) (filled ms pad) rest more)
+          ≡ shown (batchFrom K s (took K s e b) (filled ms pad) rest more)
           → shown (out (recount c b) o p) ≡ shown (out b o p)
       go None None ih =
           ap
-          (oneMore (record { moves = length ms; findings = length new }) (laid new roll))
-          (ap (λ d. shown (batchFrom K s d (laid ms pad) rest more)) (took-recount c b e) ∙ ih)
+          (oneMore (record { moves = length ms; findings = length new }) (filled new roll))
+          (ap (λ d. shown (batchFrom K s d (filled ms pad) rest more)) (took-recount c b e) ∙ ih)
       go None (Some r) ih = refl
       go (Some r) p ih = refl
 
@@ -492,7 +493,7 @@ module _ {V : Type 0} (K : ValueKind V) (s : SheetModel V) where
       out d r =
           unless r
           (λ x. record { back = Err x; roll = roll; book = d })
-          (record { back = Ok (length new); roll = laid new roll; book = endedBook d })
+          (record { back = Ok (length new); roll = filled new roll; book = endedBook d })
 
       go : (r : Option Refusal)
           → Ending roll (out (recount c b) r .roll) (out (recount c b) r .back) ≡ Ending roll (out b r .roll) (out b r .back)

@@ -12,6 +12,7 @@ use Rattle.std.specs.declared.result.Result.{Result}
 use Rattle.std.specs.declared.result.Result.the-variants.{Ok, Err}
 use Rattle.refusals.specs.declared.refusal.Refusal.{Refusal}
 use Rattle.refusals.specs.declared.refusal.Refusal.the-variants.{Malformed, WrongPhase, TooManyEvents, TooManyMoves, TooManyFindings, ShelfFull, ShelfNotEmpty, UnknownName}
+use Rattle.values.specs.Form.{filled}
 use Rattle.records.specs.Record.{kindFits}
 use Rattle.records.specs.declared.event.Event.{Event}
 use Rattle.items.specs.Ascending.{kept}
@@ -69,10 +70,6 @@ unless (Some r) no′ yes′ = no′ r
 abbrev pub onResult : {R A : Type 0} → Result R Refusal → (R → A) → (Refusal → A) → A
 onResult (Ok a) yes′ no′ = yes′ a
 onResult (Err r) yes′ no′ = no′ r
-
--- a buffer whose front is filled and whose other places are untouched
-abbrev pub laid : {X : Type 0} → List X → List X → List X
-laid front buffer = front ++ drop (length front) buffer
 
 -- what a batch gives back: how many events were accepted, how many findings they made, and a refusal, if there was one
 abbrev pub batched : ℕ → ℕ → Option Refusal → Batched
@@ -178,7 +175,7 @@ module _ {V : Type 0} where
 
   -- what a list leaves in its room: the items in order, as far as it reaches
   abbrev pub listedIn : List (Item V) → BookModel V → List (Item V)
-  listedIn room b = laid (take (length room) (b .items)) room
+  listedIn room b = filled (take (length room) (b .items)) room
 
   -- two books with the same open items and the same seven counts of each name
   pub record Agreeing (b b′ : BookModel V) : Type 0 where
@@ -234,7 +231,7 @@ module _ {V : Type 0} where
         let fs = closings (b .accepted) (b .items) in
         unless (endRefusal b roll)
         (λ r. record { back = Err r; roll = roll; book = b })
-        (record { back = Ok (length fs); roll = laid fs roll; book = endedBook b })
+        (record { back = Ok (length fs); roll = filled fs roll; book = endedBook b })
 
   module _ (K : ValueKind V) where
     -- the item of a state without parameters
@@ -318,14 +315,14 @@ module _ {V : Type 0} where
           let fs = findingsAt (b .accepted + 1) (b .items) e in
           record {
             back = Ok (record { moves = length ms; findings = length fs });
-            pad = laid ms pad;
-            roll = laid fs roll;
+            pad = filled ms pad;
+            roll = filled fs roll;
             book = took e b;
           }
 
       -- the front of the pad, with the moves as far as they fit
       unfoldable pub filledPad : BookModel V → Event V → List (Move V) → List (Move V)
-      filledPad b e pad = laid (take (length pad) (movesAt K s (b .items) e)) pad
+      filledPad b e pad = filled (take (length pad) (movesAt K s (b .items) e)) pad
 
       -- a put of an event whose record stands at a place
       abbrev pub putAt : ℕ → BookModel V → Event V → List (Move V) → List (Finding V) → EventOutcome V (Result Accepted Refusal)

@@ -35,6 +35,7 @@ use Rattle.items.specs.declared.item.Item.{Item}
 abbrev pub padOf : ℕ → List (Move Number)
 padOf n = replicate n (record { cause = Fired; item = Watch })
 
+-- a roll with so many places
 abbrev pub rollOf : ℕ → List (Finding Number)
 rollOf n = replicate n (record { event = 0; fault = fault.HotAtClose; item = Watch })
 
@@ -71,12 +72,15 @@ day n = putAll wire (openedOn wire 9) (take n (sent 7 40 ∷ (sent 7 40 ∷ (con
 abbrev pub put1 : EventOutcome Number (Result Accepted Refusal)
 put1 = putOn wire (day 0) (sent 7 40)
 
+-- the third event of the day, with what it gives back and leaves
 abbrev pub put3 : EventOutcome Number (Result Accepted Refusal)
 put3 = putOn wire (day 2) (confirmed 7)
 
+-- the fourth
 abbrev pub put4 : EventOutcome Number (Result Accepted Refusal)
 put4 = putOn wire (day 3) (confirmed 7)
 
+-- the fifth
 abbrev pub put5 : EventOutcome Number (Result Accepted Refusal)
 put5 = putOn wire (day 4) (confirmed 7)
 
@@ -124,6 +128,7 @@ shortDay =
     ∷ (Opening (Ok tt)
     ∷ []))
 
+-- what the definitions give in each case
 pub record Cases : Type 0 where
   -- the wire sheet is a sheet, and keyed
   pub sound : SoundSheet wire

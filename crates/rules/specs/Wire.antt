@@ -52,12 +52,15 @@ cellOn f w = record { field = f; want = w }
 
 -- patterns with none, one or two arguments
 
+-- a state without arguments
 abbrev pub of0 : ℕ → Pattern
 of0 n = record { state = n; arguments = Nothing }
 
+-- a state with one argument
 abbrev pub of1 : ℕ → Argument → Pattern
 of1 n a = record { state = n; arguments = One a }
 
+-- a state with two arguments
 abbrev pub of2 : ℕ → Argument → Argument → Pattern
 of2 n a b = record { state = n; arguments = Two a b }
 
@@ -85,12 +88,15 @@ itemOn n a b = record { name = n; first = numberIs a; second = numberIs b; third
 
 -- its states
 
+-- stands from the opening on
 abbrev pub watchState : State
 watchState = record { parameters = 0; init = true; always = true; hot = false; step = false; next = false }
 
+-- sent and not confirmed yet
 abbrev pub waitingState : State
 waitingState = record { parameters = 2; init = false; always = false; hot = true; step = false; next = false }
 
+-- confirmed
 abbrev pub doneState : State
 doneState = record { parameters = 1; init = false; always = false; hot = false; step = false; next = false }
 
@@ -137,18 +143,23 @@ wire =
 
 -- its events and items
 
+-- a wire is sent
 abbrev pub sent : ℕ → ℕ → Event Number
 sent w a = eventOn 1 (Some w) (Some a)
 
+-- a wire is confirmed
 abbrev pub confirmed : ℕ → Event Number
 confirmed w = eventOn 2 (Some w) None
 
+-- the item of state Watch
 abbrev pub Watch : Item Number
 Watch = itemOn 0 0 0
 
+-- an item of state Waiting
 abbrev pub Waiting : ℕ → ℕ → Item Number
 Waiting w a = itemOn 1 w a
 
+-- an item of state Done
 abbrev pub Done : ℕ → Item Number
 Done w = itemOn 2 w 0
 
@@ -156,12 +167,15 @@ Done w = itemOn 2 w 0
 
 -- an init state, another state, and a next state that is init and always
 
+-- an init state that leaves when it fires
 abbrev pub plainState : State
 plainState = record { parameters = 0; init = true; always = false; hot = false; step = false; next = false }
 
+-- a state that is not init
 abbrev pub otherState : State
 otherState = record { parameters = 0; init = false; always = false; hot = false; step = false; next = false }
 
+-- an init state that lapses, and whose lapse is a finding
 abbrev pub nextState : State
 nextState = record { parameters = 0; init = true; always = true; hot = false; step = false; next = true }
 

@@ -45,6 +45,7 @@ isArgument (argument.Slot t) (argument.Slot u) = eqb t u
 isArgument (argument.Slot t) argument.Any = false
 isArgument argument.Any b = false
 
+-- the first argument is there and is the key
 abbrev pub isFirst : Argument → Option Argument → Bool
 isFirst a None = false
 isFirst a (Some b) = isArgument a b
@@ -54,9 +55,11 @@ module _ (states : List State) where
   abbrev pub keyedPattern : Argument → Pattern → Bool
   keyedPattern a x = ltb 0 (stateOf states (x .state) .parameters) && isFirst a (firstArgument (x .arguments))
 
+  -- a condition names items of the key
   abbrev pub keyedCondition : Argument → Condition → Bool
   keyedCondition a c = keyedPattern a (c .pattern)
 
+  -- an ask or a strike names items of the key
   abbrev pub keyedEntry : Argument → Entry → Bool
   keyedEntry a entry.Ok = true
   keyedEntry a entry.Error = true

@@ -37,6 +37,7 @@ soundInit d = not (d .init) || eqb (d .parameters) 0
 abbrev pub soundKind : EventKind → Bool
 soundKind k = leb (k .key) 8
 
+-- a cell that wants this binds the slot t
 abbrev pub binds : ℕ → Want → Bool
 binds t want.Any = false
 binds t (want.Constant i) = false
@@ -83,9 +84,11 @@ module _ (n p : ℕ) where
     abbrev pub soundPattern : Bool → Pattern → Bool
     soundPattern mayAny x = ltb (x .state) (length states) && (eqb (length (argumentList (x .arguments))) (stateOf states (x .state) .parameters) && every (soundArgument cells mayAny) (argumentList (x .arguments)))
 
+    -- a condition may have any value for an argument
     abbrev pub soundCondition : Condition → Bool
     soundCondition c = soundPattern true (c .pattern)
 
+    -- an ask or a strike may not
     abbrev pub soundEntry : Entry → Bool
     soundEntry entry.Ok = true
     soundEntry entry.Error = true

@@ -19,6 +19,7 @@ pub record SheetModel (V : Type 0) : Type 0 where
   pub kinds : List EventKind
   pub constants : List V
 
+-- the sheet of these tables
 abbrev pub sheetOf : {V : Type 0} → List State → List Row → List EventKind → List V → SheetModel V
 sheetOf states rows kinds constants = record { states = states; rows = rows; kinds = kinds; constants = constants }
 

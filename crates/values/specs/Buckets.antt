@@ -7,8 +7,10 @@ use Rattle.values.specs.declared.reference.Reference.{Reference}
 abbrev pub topTen : ℕ → ℕ
 topTen n = n % 2 ^ 64 / 2 ^ 54
 
+-- the bucket of a number
 abbrev pub numberBucket : Number → ℕ
 numberBucket x = topTen (x .value * 0x9e3779b97f4a7c15)
 
+-- the bucket of a reference
 abbrev pub referenceBucket : Reference → ℕ
 referenceBucket x = topTen (x .high * 0x9e3779b97f4a7c15 % 2 ^ 64 + x .low * 0xc2b2ae3d27d4eb4f % 2 ^ 64)

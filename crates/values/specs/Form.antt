@@ -17,6 +17,7 @@ Bytes s = (i : ℕ) → getD s i 0 < 256
 abbrev pub Reading : Type 0 → Type 0
 Reading V = Result (V × ℕ) ℕ
 
+-- what every written form keeps
 pub record WrittenForm {V : Type 0} (written : V → Option (List ℕ)) (reads : List ℕ → Reading V) : Type 0 where
   -- a value's written bytes, whatever follows them, read back to it and their length
   pub back : (x : V) (w rest : List ℕ) → Bytes (w ++ rest) → written x ≡ Some w → reads (w ++ rest) ≡ Ok (x, length w)
@@ -29,6 +30,6 @@ pub record WrittenForm {V : Type 0} (written : V → Option (List ℕ)) (reads :
 abbrev pub bytesIn : Option (List ℕ) → List ℕ
 bytesIn o = valueOr o []
 
--- a buffer whose front is filled
-abbrev pub filled : List ℕ → List ℕ → List ℕ
-filled w buffer = w ++ drop (length w) buffer
+-- a buffer whose front is filled, and whose other places are untouched
+abbrev pub filled : {X : Type 0} → List X → List X → List X
+filled front buffer = front ++ drop (length front) buffer

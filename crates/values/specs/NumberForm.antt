@@ -13,9 +13,11 @@ use Rattle.values.specs.Order.{byNumber}
 use Rattle.values.specs.Form.{Reading}
 use Rattle.values.specs.Words.{bytesOf, numberOf}
 
+-- the number n as a value
 abbrev pub numberIs : ℕ → Number
 numberIs n = record { value = n }
 
+-- the usual order
 abbrev pub numberOrder : Number → Number → Ordering
 numberOrder x y = byNumber (x .value) (y .value)
 

@@ -8,6 +8,7 @@ use Rattle.std.specs.Orderings.{reversed, thenBy}
 use Rattle.std.specs.declared.cmp.Ordering.{Ordering}
 use Rattle.std.specs.declared.cmp.Ordering.the-variants.{Less, Equal, Greater}
 
+-- what every comparison keeps
 pub record TotalOrder {V : Type 0} (order : V → V → Ordering) : Type 0 where
   -- equal is told exactly when both are the same value
   pub same : (x y : V) → order x y ≡ Equal → x ≡ y

@@ -14,6 +14,7 @@ use Rattle.values.specs.Order.{byNumber}
 use Rattle.values.specs.Form.{Reading}
 use Rattle.values.specs.Words.{bytesOf, numberOf}
 
+-- the reference of two words
 abbrev pub referenceIs : ℕ → ℕ → Reference
 referenceIs h l = record { high = h; low = l }
 
@@ -50,6 +51,7 @@ lengthFits n = leb 1 n && leb n 16
 abbrev pub referenceOf : List ℕ → Option Reference
 referenceOf bs = cond (lengthFits (length bs) && eqb (untilZero bs) (length bs)) (Some (packed bs)) None
 
+-- both words are the same
 abbrev pub sameWords : Reference → Reference → Bool
 sameWords x y = eqb (x .high) (y .high) && eqb (x .low) (y .low)
 
