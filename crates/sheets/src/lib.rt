@@ -6,13 +6,16 @@ pub mod fault;
 mod keying;
 pub mod loading;
 mod patterns;
+pub mod reading;
 mod rows;
 mod rule;
 pub mod sheet;
 pub mod table;
 pub mod tables;
 
+pub use each::each_holds;
 pub use fault::LoadError;
+pub use rule::Rule;
 pub use sheet::Sheet;
 pub use tables::Argument;
 pub use tables::Arguments;

@@ -1,0 +1,7 @@
+mod Counting
+mod Scoped
+mod SetSizes
+mod SetSteps
+mod Skips
+mod Walks
+mod Whole
