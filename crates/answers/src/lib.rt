@@ -1,4 +1,7 @@
 // What the calls of the library answer, in words.
+
+#![tactic(auto)]
+
 mod calls;
 mod fault;
 mod itemwords;

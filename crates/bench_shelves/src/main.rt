@@ -1,4 +1,7 @@
 // Times the calls of each shelf. Each argument is a number of items; with none, it says so and ends.
+
+#![tactic(auto)]
+
 mod work;
 
 use indexed::IndexedShelf;

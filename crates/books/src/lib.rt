@@ -1,4 +1,7 @@
 // Books: a sheet and a shelf put to work, event by event.
+
+#![tactic(auto)]
+
 mod asking;
 mod batching;
 pub mod book;

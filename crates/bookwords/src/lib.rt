@@ -1,4 +1,7 @@
 // The words of a line about books.
+
+#![tactic(auto)]
+
 mod bookline;
 mod counted;
 mod events;

@@ -1,4 +1,7 @@
 // The commands of a script: the words of a line as a command.
+
+#![tactic(auto)]
+
 pub mod command;
 mod parse;
 

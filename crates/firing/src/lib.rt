@@ -1,4 +1,7 @@
 // Which rows fire at an event, and what one item of a shelf does at it.
+
+#![tactic(auto)]
+
 pub mod at;
 mod cells;
 pub mod collect;

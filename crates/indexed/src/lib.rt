@@ -1,4 +1,7 @@
 // The indexed shelf: items in cells that are linked by number, found through chains by name and bucket.
+
+#![tactic(auto)]
+
 mod shelf;
 mod walk;
 

@@ -1,4 +1,7 @@
 // Items, their order, and what a shelf of items is.
+
+#![tactic(auto)]
+
 mod added;
 mod compare;
 mod item;

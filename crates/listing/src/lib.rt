@@ -1,4 +1,7 @@
 // The items of any shelf, listed into a lent buffer, and shelves compared by their items.
+
+#![tactic(auto)]
+
 mod everything;
 mod into;
 mod listing;

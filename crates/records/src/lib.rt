@@ -1,4 +1,7 @@
 // Events as records of bytes: a reader over a batch, and the writer of one record.
+
+#![tactic(auto)]
+
 mod decode;
 mod encode;
 pub mod event;

@@ -1,4 +1,7 @@
 // Why a call says no: the one enum of refusals, with each one's number, layer and place.
+
+#![tactic(auto)]
+
 pub mod refusal;
 pub mod telling;
 pub mod text;

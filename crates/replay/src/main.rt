@@ -1,4 +1,7 @@
 // Replays a script: makes each call that a line asks for, and prints what it answered.
+
+#![tactic(auto)]
+
 mod session;
 mod sessions;
 

@@ -1,4 +1,7 @@
 // The words of a line about a row: cells, conditions and entries.
+
+#![tactic(auto)]
+
 mod cells;
 mod patterns;
 mod rowline;

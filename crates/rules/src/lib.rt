@@ -1,4 +1,7 @@
 // The rules of a book as definitions, and the law that every use of a book keeps: this crate is specs and proofs, with the plain types that they speak of.
+
+#![tactic(auto)]
+
 mod answers;
 mod fault;
 mod finding;

@@ -1,4 +1,7 @@
 // The text of a script: its lines, their words, words as values and events, and values and events as words.
+
+#![tactic(auto)]
+
 pub mod decimal;
 mod hexadecimal;
 mod line;

@@ -1,4 +1,7 @@
 // Sheets: tables of rules, checked once when they are loaded.
+
+#![tactic(auto)]
+
 mod cells;
 mod check;
 mod each;

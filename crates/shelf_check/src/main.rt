@@ -1,4 +1,7 @@
 // Makes the same calls on both shelves, and prints what they answered and whether they answered alike.
+
+#![tactic(auto)]
+
 mod answers;
 mod calls;
 mod drawing;

@@ -1,4 +1,7 @@
 // New shelves, and new buffers to be lent.
+
+#![tactic(auto)]
+
 mod buffers;
 mod shelves;
 

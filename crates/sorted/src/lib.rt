@@ -1,4 +1,7 @@
 // The sorted shelf: items in ascending order, found by halving.
+
+#![tactic(auto)]
+
 mod mark;
 mod shelf;
 

@@ -1,4 +1,7 @@
 // One event over any shelf: its moves and findings, the set afterwards, and what is counted.
+
+#![tactic(auto)]
+
 mod causes;
 mod changes;
 mod counts;

@@ -1,4 +1,7 @@
 // The tables that the lines of a script build.
+
+#![tactic(auto)]
+
 mod building;
 mod kinds;
 mod places;

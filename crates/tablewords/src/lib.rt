@@ -1,4 +1,7 @@
 // The words of a line that builds tables.
+
+#![tactic(auto)]
+
 mod marks;
 mod tableline;
 

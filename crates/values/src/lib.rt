@@ -1,4 +1,7 @@
 // Kinds of value: their order, their filler, their written form and their buckets.
+
+#![tactic(auto)]
+
 mod buckets;
 pub mod number;
 pub mod numbers;

@@ -3,13 +3,13 @@ use Rattle.books.specs.Asks.{same_tallies}
 use Rattle.books.proofs.Compares.{compare-end, compare-more}
 use Rattle.books.proofs.comparing.same_tallies.Goals as goal
 
-pub returns-then-not-same-tally : goal.returns-then-not-same-tally
-returns-then-not-same-tally c =
+pub returns-then-not-same_tally : goal.returns-then-not-same_tally
+returns-then-not-same_tally c =
     let ts = c.args.left.now in
     let us = c.args.other.now in
     let i = c.loop-i.i in
     record {
-      answer = sym (c.loop-i.invariant ∙ compare-more ts us i (omega (arith, c.told-left, c.loop-i-test.true)) (omega (arith, c.told-other, c.loop-i-test.true)) ∙ ap (λ b. b && same_tallies (drop (i + 1) ts) (drop (i + 1) us)) (sym c.if-not-same-tally.ensures));
+      answer = sym (c.loop-i.invariant ∙ compare-more ts us i (omega (arith, c.told-left, c.loop-i-test.true)) (omega (arith, c.told-other, c.loop-i-test.true)) ∙ ap (λ b. b && same_tallies (drop (i + 1) ts) (drop (i + 1) us)) (sym c.if-not-same_tally.ensures));
       left = c.told-left;
       other = c.told-other;
     }
@@ -19,7 +19,7 @@ loop-i-preserved c =
     let ts = c.args.left.now in
     let us = c.args.other.now in
     let i = c.loop-i.i in
-    c.loop-i.invariant ∙ compare-more ts us i (omega (arith, c.told-left, c.loop-i-test.true)) (omega (arith, c.told-other, c.loop-i-test.true)) ∙ ap (λ b. b && same_tallies (drop (i + 1) ts) (drop (i + 1) us)) (sym c.if-not-same-tally.ensures)
+    c.loop-i.invariant ∙ compare-more ts us i (omega (arith, c.told-left, c.loop-i-test.true)) (omega (arith, c.told-other, c.loop-i-test.true)) ∙ ap (λ b. b && same_tallies (drop (i + 1) ts) (drop (i + 1) us)) (sym c.if-not-same_tally.ensures)
 
 pub returns : goal.returns
 returns c =

@@ -10,8 +10,8 @@ loop-i-init g c = tallying-start (values_by g.row.V-Value.order g.row.V-Value.bl
 pub loop-i-preserved : goal.loop-i-preserved
 loop-i-preserved g c =
     tallying-more (values_by g.row.V-Value.order g.row.V-Value.blank g.row.V-Value.reads) c.args.moves.now (g.S.Shelf.items c.args.shelf.now) c.args.tallies.now
-    c.loop-i.tallies c.loop-i.i c.index-moves-i.result c.loop-i-test.true c.index-moves-i.is c.requires.room c.loop-i.invariant c.count-name.new.tallies
-    (c.count-name.ensures ∙ ap (counted c.loop-i.tallies c.index-moves-i.result.item.name) c.move-tally-more.ensures)
+    c.loop-i.tallies c.loop-i.i c.index-moves-i.result c.loop-i-test.true c.index-moves-i.is c.requires.room c.loop-i.invariant c.count_name.new.tallies
+    (c.count_name.ensures ∙ ap (counted c.loop-i.tallies c.index-moves-i.result.item.name) c.move_tally-more.ensures)
 
 pub returns : goal.returns
 returns g c =

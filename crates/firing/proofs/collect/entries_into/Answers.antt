@@ -11,7 +11,7 @@ loop-entry-init g c = filling-start _ _ _ _ (joined-present (g.E.Effect.of_entry
 pub loop-entry-preserved : goal.loop-entry-preserved
 loop-entry-preserved g c =
     let f = g.E.Effect.of_entry c.args.effect.now c.args.at.now c.args.item.now c.args.row.now c.args.number in
-    filling-more _ _ _ _ c.loop-entry.invariant (at_drop_more (flat_map (if_there f)) c.args.entries.now c.loop-entry.entry-index _ c.loop-entry-test.true) c.entry-into-after.ensures.out c.entry-into-after.ensures.place
+    filling-more _ _ _ _ c.loop-entry.invariant (at_drop_more (flat_map (if_there f)) c.args.entries.now c.loop-entry.entry-index _ c.loop-entry-test.true) c.entry_into-after.ensures.out c.entry_into-after.ensures.place
 
 pub returns : goal.returns
 returns g c =

@@ -11,6 +11,6 @@ returns g c =
     let one = g.E.Effect.of_item c.args.effect.now s in
     let many = g.E.Effect.of_entry c.args.effect.now s in
     record {
-      out = item-filled many K s F one c.args.item.now (option_to_list c.of-item.result) c.any-fires-fired.result c.of-item.ensures c.any-fires-fired.ensures c.args.place c.put-if-after.result c.put-if-after.ensures.place c.args.out.now c.put-if-after.new.buffer c.rows-into.new.out c.put-if-after.ensures.buffer c.rows-into.ensures.out;
-      place = item-counted many K s F one c.args.item.now (option_to_list c.of-item.result) c.any-fires-fired.result c.of-item.ensures c.any-fires-fired.ensures c.args.place c.put-if-after.result c.put-if-after.ensures.place c.rows-into.result c.rows-into.ensures.place;
+      out = item-filled many K s F one c.args.item.now (option_to_list c.of_item.result) c.any_fires-fired.result c.of_item.ensures c.any_fires-fired.ensures c.args.place c.put_if-after.result c.put_if-after.ensures.place c.args.out.now c.put_if-after.new.buffer c.rows_into.new.out c.put_if-after.ensures.buffer c.rows_into.ensures.out;
+      place = item-counted many K s F one c.args.item.now (option_to_list c.of_item.result) c.any_fires-fired.result c.of_item.ensures c.any_fires-fired.ensures c.args.place c.put_if-after.result c.put_if-after.ensures.place c.rows_into.result c.rows_into.ensures.place;
     }

@@ -15,7 +15,7 @@ loop-i-init g c =
 pub loop-i-preserved : goal.loop-i-preserved
 loop-i-preserved g c =
     let f = row_gives (g.E.Effect.of_entry c.args.effect.now c.args.at.now) c.args.item.now in
-    filling-more _ _ _ _ c.loop-i.invariant (fired-more (values_by g.row.V-Value.order g.row.V-Value.blank g.row.V-Value.reads) (sheet_in c.args.at.now) (event_in c.args.at.now) c.args.item.now (g.S.Shelf.items c.args.shelf.now) c.loop-i.i _ c.loop-i-test.true f) c.row-into-after.ensures.out c.row-into-after.ensures.place
+    filling-more _ _ _ _ c.loop-i.invariant (fired-more (values_by g.row.V-Value.order g.row.V-Value.blank g.row.V-Value.reads) (sheet_in c.args.at.now) (event_in c.args.at.now) c.args.item.now (g.S.Shelf.items c.args.shelf.now) c.loop-i.i _ c.loop-i-test.true f) c.row_into-after.ensures.out c.row_into-after.ensures.place
 
 pub returns : goal.returns
 returns g c =

@@ -7,4 +7,4 @@ use Rattle.firing.proofs.one.item_moves.Goals as goal
 pub returns : goal.returns
 returns g c =
     let e = moves-given (values_by g.row.V-Value.order g.row.V-Value.blank g.row.V-Value.reads) c.args.at.now (g.S.Shelf.items c.args.shelf.now) c.args.item.now in
-    record { out = c.item-into.ensures.out ∙ ap (fill c.args.out.now c.args.place) e; place = c.item-into.ensures.place ∙ ap (places_after c.args.place) e }
+    record { out = c.item_into.ensures.out ∙ ap (fill c.args.out.now c.args.place) e; place = c.item_into.ensures.place ∙ ap (places_after c.args.place) e }

@@ -5,14 +5,14 @@ use Rattle.indexed.specs.Index.{item_in}
 use Rattle.indexed.proofs.Steps.{walk-on, walk-less, first_on, first-here, first-end}
 use Rattle.indexed.proofs.walk.first_wanted.Goals as goal
 
-pub returns-then-is-wanted : goal.returns-then-is-wanted
-returns-then-is-wanted g c =
+pub returns-then-is_wanted : goal.returns-then-is_wanted
+returns-then-is_wanted g c =
     let i = c.loop-last.invariant in
     let f = item_in g.row.V-Value.blank c.args.cells.now in
     let w = wanted g.row.V-Value.order c.args.name c.args.first c.args.above in
     let e = get_or_read c.args.cells.now _ _ (omega (arith, i.0.cells_reach)) c.index-cells-last.is (item_in g.row.V-Value.blank [] 0) in
-    let d = get_or_read c.args.cells.now _ _ (omega (arith, i.0.cells_reach)) c.index-cells-last-then-is-wanted.is (item_in g.row.V-Value.blank [] 0) in
-    ap Some d ∙ sym (first-here _ _ _ _ i.0 c.loop-last-test.true f w (ap w (sym e) ∙ sym c.if-is-wanted.ensures)) ∙ i.1
+    let d = get_or_read c.args.cells.now _ _ (omega (arith, i.0.cells_reach)) c.index-cells-last-then-is_wanted.is (item_in g.row.V-Value.blank [] 0) in
+    ap Some d ∙ sym (first-here _ _ _ _ i.0 c.loop-last-test.true f w (ap w (sym e) ∙ sym c.if-is_wanted.ensures)) ∙ i.1
 
 pub loop-last-smaller : goal.loop-last-smaller
 loop-last-smaller g c = walk-less _ _ _ _ c.loop-last.invariant.0 c.loop-last-test.true
@@ -24,7 +24,7 @@ loop-last-preserved g c =
     let w = wanted g.row.V-Value.order c.args.name c.args.first c.args.above in
     let e = get_or_read c.args.cells.now _ _ (omega (arith, i.0.cells_reach)) c.index-cells-last.is (item_in g.row.V-Value.blank [] 0) in (
       walk-on _ _ _ _ i.0 c.loop-last-test.true,
-      first_on _ _ _ _ i.0 c.loop-last-test.true f w (ap w (sym e) ∙ sym c.if-is-wanted.ensures) ∙ i.1,
+      first_on _ _ _ _ i.0 c.loop-last-test.true f w (ap w (sym e) ∙ sym c.if-is_wanted.ensures) ∙ i.1,
     )
 
 pub returns : goal.returns

@@ -18,13 +18,13 @@ loop-last-preserved g c =
           (ap (λ y. item_order g.row.V-Value.order y c.args.item.now) (sym e) ∙ sym c.in-Less.ensures) ∙ i.1,
     )
 
-pub returns-in-default : goal.returns-in-default
-returns-in-default g c =
+pub returns-in_default : goal.returns-in_default
+returns-in_default g c =
     let i = c.loop-last.invariant in
     let p = probe g.row.V-Value.order g.row.V-Value.blank c.args.cells.now c.args.item.now in
     let e = get_or_read c.args.cells.now _ _ (omega (arith, i.0.cells_reach)) c.index-cells-cell.is (item_in g.row.V-Value.blank [] 0) in
     sym (last-here _ _ _ _ i.0 c.loop-last-test.true p
-    (λ n. c.in-default.not-Less (c.compare.ensures ∙ ap (λ y. item_order g.row.V-Value.order y c.args.item.now) e ∙ n))) ∙ i.1
+    (λ n. c.in_default.not-Less (c.compare.ensures ∙ ap (λ y. item_order g.row.V-Value.order y c.args.item.now) e ∙ n))) ∙ i.1
 
 pub returns : goal.returns
 returns g c =

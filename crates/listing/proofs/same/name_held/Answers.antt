@@ -22,4 +22,4 @@ loop-item-preserved g c =
     item-there g.met.V.Value.total c.args.name c.loop-item.above (g.S.Shelf.items s) (g.T.Shelf.items c.args.other.now) _ c.loop-item.invariant (g.met.S.Shelf.ascending s c.requires.left) c.in-Some.item c.in-Some.ensures c.if-not-holds.ensures
 
 pub returns : goal.returns
-returns g c = items-done g.met.V.Value.total c.args.name c.loop-item.above (g.S.Shelf.items c.args.left.now) (g.T.Shelf.items c.args.other.now) _ c.loop-item.invariant c.in-default.ensures
+returns g c = items-done g.met.V.Value.total c.args.name c.loop-item.above (g.S.Shelf.items c.args.left.now) (g.T.Shelf.items c.args.other.now) _ c.loop-item.invariant c.in_default.ensures

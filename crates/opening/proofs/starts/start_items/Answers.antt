@@ -7,8 +7,8 @@ use Rattle.opening.specs.Starts.{started_with}
 use Rattle.opening.proofs.Inits.{inits-more, inits-room}
 use Rattle.opening.proofs.starts.start_items.Goals as goal
 
-pub start-one-requires : goal.start-one-requires
-start-one-requires g c =
+pub start_one-requires : goal.start_one-requires
+start_one-requires g c =
     let K = values_by g.row.Of-Value.order g.row.Of-Value.blank g.row.Of-Value.reads in
     let ds = c.args.states.now in
     let d = get_or ds c.loop-i.i unnamed in
@@ -21,7 +21,7 @@ loop-i-preserved g c =
     let K = values_by g.row.Of-Value.order g.row.Of-Value.blank g.row.Of-Value.reads in
     let ds = c.args.states.now in
     let d = get_or ds c.loop-i.i unnamed in
-    let s = c.start-one.ensures in
+    let s = c.start_one.ensures in
     (s.right, s.limit ∙ c.loop-i.invariant.1, s.items ∙ ap (started_with K c.loop-i.i d) c.loop-i.invariant.2 ∙ inits-more K ds c.loop-i.i d c.loop-i-test.true refl)
 
 pub returns : goal.returns

@@ -15,4 +15,4 @@ returns-then-state g c =
     let xs = g.S.Shelf.items c.args.shelf.now in
     let i : started_with K c.args.name c.args.state.now xs ≡ placed (item_order g.row.Of-Value.order) x xs = cond-true _ _ _ c.if-state.true in
     let p = add-places K g.met.Of.Value.total (g.S.Shelf.limit c.args.shelf.now) x xs (g.met.S.Shelf.ascending c.args.shelf.now c.requires.right) (omega (arith, ap length i, c.requires.room)) in
-    record { right = c.add.ensures.right; limit = c.add.ensures.limit; items = c.add.ensures.items ∙ ap (λ a. after_add g.row.Of-Value.order a c.plain-item.result xs) c.add.ensures.answer ∙ ap (λ y. after_add g.row.Of-Value.order (add_answer g.row.Of-Value.order (g.S.Shelf.limit c.args.shelf.now) y xs) y xs) c.plain-item.ensures ∙ p ∙ sym i }
+    record { right = c.add.ensures.right; limit = c.add.ensures.limit; items = c.add.ensures.items ∙ ap (λ a. after_add g.row.Of-Value.order a c.plain_item.result xs) c.add.ensures.answer ∙ ap (λ y. after_add g.row.Of-Value.order (add_answer g.row.Of-Value.order (g.S.Shelf.limit c.args.shelf.now) y xs) y xs) c.plain_item.ensures ∙ p ∙ sym i }

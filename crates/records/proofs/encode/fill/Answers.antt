@@ -13,16 +13,16 @@ bounds-buffer-1 g c = let h = two-room g.row.V-Value.written c.args.event.now c.
 pub loop-i-init : goal.loop-i-init
 loop-i-init g c = let w = g.row.V-Value.written in fill_none w c.args.event.now _ c.args.buffer.now _ (some_is (event_bytes w c.args.event.now) c.requires.0) c.map.ensures c.requires.1
 
-pub put-field-at-requires : goal.put-field-at-requires
-put-field-at-requires g c =
+pub put_field-at-requires : goal.put_field-at-requires
+put_field-at-requires g c =
     let w = g.row.V-Value.written in
     let fs = fields_of c.args.event.now in
-    (fill-has w _ _ fs _ _ _ c.loop-i-test.true _ c.field-at-field.ensures c.loop-i.invariant, fill-fits w _ _ fs _ _ _ c.loop-i-test.true _ c.field-at-field.ensures c.loop-i.invariant)
+    (fill-has w _ _ fs _ _ _ c.loop-i-test.true _ c.field_at-field.ensures c.loop-i.invariant, fill-fits w _ _ fs _ _ _ c.loop-i-test.true _ c.field_at-field.ensures c.loop-i.invariant)
 
 pub loop-i-preserved : goal.loop-i-preserved
 loop-i-preserved g c =
-    let p = c.put-field-at.ensures in
-    fill_more g.row.V-Value.written _ _ (fields_of c.args.event.now) _ _ _ c.loop-i-test.true _ c.field-at-field.ensures c.loop-i.invariant _ _ c.put-field-at.auto.buffer p.end p.front p.rest
+    let p = c.put_field-at.ensures in
+    fill_more g.row.V-Value.written _ _ (fields_of c.args.event.now) _ _ _ c.loop-i-test.true _ c.field_at-field.ensures c.loop-i.invariant _ _ c.put_field-at.auto.buffer p.end p.front p.rest
 
 pub returns : goal.returns
 returns g c =

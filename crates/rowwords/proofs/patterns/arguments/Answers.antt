@@ -16,5 +16,5 @@ returns-in-len2 c = c.two.ensures ∙ sym (ap arguments_in (texts-2 c.args.words
 pub returns-in-len3 : goal.returns-in-len3
 returns-in-len3 c = c.three.ensures ∙ sym (ap arguments_in (texts-3 c.args.words.now no_word (search rules)))
 
-pub returns-in-default : goal.returns-in-default
-returns-in-default c = sym (many-arguments c.args.words.now (search rules))
+pub returns-in_default : goal.returns-in_default
+returns-in_default c = sym (many-arguments c.args.words.now (search rules))

@@ -8,5 +8,5 @@ returns-in-empty c = sheet-none c.args.words.now (search rules)
 pub returns-in-len1 : goal.returns-in-len1
 returns-in-len1 c = c.session.ensures ∙ sheet-one c.args.words.now _ (search rules)
 
-pub returns-in-default : goal.returns-in-default
-returns-in-default c = sheet-more c.args.words.now (search rules)
+pub returns-in_default : goal.returns-in_default
+returns-in_default c = sheet-more c.args.words.now (search rules)

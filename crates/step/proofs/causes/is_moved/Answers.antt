@@ -7,11 +7,11 @@ use Rattle.step.proofs.SetSizes.{moved-some}
 use Rattle.step.proofs.SetSizes.{some-here, some-later}
 use Rattle.step.proofs.causes.is_moved.Goals as goal
 
-pub returns-then-is-for : goal.returns-then-is-for
-returns-then-is-for g c = some-here (is_for g.row.V-Value.order c.args.cause c.args.item.now) c.args.moves.now c.loop-change.change-index c.change-item.result c.loop-change-test.true c.change-item.is c.loop-change.invariant c.if-is-for.ensures ∙ moved-some (values_by g.row.V-Value.order g.row.V-Value.blank g.row.V-Value.reads) c.args.cause c.args.moves.now c.args.item.now
+pub returns-then-is_for : goal.returns-then-is_for
+returns-then-is_for g c = some-here (is_for g.row.V-Value.order c.args.cause c.args.item.now) c.args.moves.now c.loop-change.change-index c.change-item.result c.loop-change-test.true c.change-item.is c.loop-change.invariant c.if-is_for.ensures ∙ moved-some (values_by g.row.V-Value.order g.row.V-Value.blank g.row.V-Value.reads) c.args.cause c.args.moves.now c.args.item.now
 
 pub loop-change-preserved : goal.loop-change-preserved
-loop-change-preserved g c = some-later (is_for g.row.V-Value.order c.args.cause c.args.item.now) c.args.moves.now c.loop-change.change-index c.change-item.result c.loop-change-test.true c.change-item.is c.loop-change.invariant c.if-is-for.ensures
+loop-change-preserved g c = some-later (is_for g.row.V-Value.order c.args.cause c.args.item.now) c.args.moves.now c.loop-change.change-index c.change-item.result c.loop-change-test.true c.change-item.is c.loop-change.invariant c.if-is_for.ensures
 
 pub returns : goal.returns
 returns g c = sym (c.loop-change.invariant ∙ at_drop_all (some (is_for g.row.V-Value.order c.args.cause c.args.item.now)) c.args.moves.now c.loop-change.change-index c.loop-change-test.false) ∙ moved-some (values_by g.row.V-Value.order g.row.V-Value.blank g.row.V-Value.reads) c.args.cause c.args.moves.now c.args.item.now

@@ -7,14 +7,14 @@ use Rattle.rules.specs.declared.moves.Cause.TheVariants.{Asked}
 use Rattle.step.proofs.SetSteps.{in-more, in-room}
 use Rattle.step.proofs.changes.ask_all.Goals as goal
 
-pub ask-one-requires : goal.ask-one-requires
-ask-one-requires g c =
+pub ask_one-requires : goal.ask_one-requires
+ask_one-requires g c =
     record { right = c.loop-change.invariant.0; room = in-room (values_by g.row.V-Value.order g.row.V-Value.blank g.row.V-Value.reads) g.met.V.Value.total c.args.moves.now c.loop-change.change-index c.change-item.result c.loop-change-test.true c.change-item.is (g.S.Shelf.items c.loop-change.shelf) _ (g.met.S.Shelf.ascending c.loop-change.shelf c.loop-change.invariant.0) c.loop-change.invariant.2 (g.S.Shelf.limit c.loop-change.shelf) (omega (arith, c.loop-change.invariant.1, c.requires.room)) }
 
 pub loop-change-preserved : goal.loop-change-preserved
 loop-change-preserved g c =
-    let s = c.ask-one.ensures in
-    (s.right, s.limit ∙ c.loop-change.invariant.1, in-more (values_by g.row.V-Value.order g.row.V-Value.blank g.row.V-Value.reads) g.met.V.Value.total c.args.moves.now c.loop-change.change-index c.change-item.result c.loop-change-test.true c.change-item.is (g.S.Shelf.items c.loop-change.shelf) _ (g.met.S.Shelf.ascending c.loop-change.shelf c.loop-change.invariant.0) c.loop-change.invariant.2 (g.S.Shelf.items c.ask-one.new.shelf) s.items)
+    let s = c.ask_one.ensures in
+    (s.right, s.limit ∙ c.loop-change.invariant.1, in-more (values_by g.row.V-Value.order g.row.V-Value.blank g.row.V-Value.reads) g.met.V.Value.total c.args.moves.now c.loop-change.change-index c.change-item.result c.loop-change-test.true c.change-item.is (g.S.Shelf.items c.loop-change.shelf) _ (g.met.S.Shelf.ascending c.loop-change.shelf c.loop-change.invariant.0) c.loop-change.invariant.2 (g.S.Shelf.items c.ask_one.new.shelf) s.items)
 
 pub returns : goal.returns
 returns g c =

@@ -10,9 +10,9 @@ returns g c =
     let u = g.met.S.Shelf.ascending c.args.shelf.now c.requires in
     record {
       started = added-starts K g.met.V.Value.total c.args.name c.args.moves.now F u;
-      asked = c.count-part-asked.ensures ∙ added-asks K g.met.V.Value.total c.args.name c.args.moves.now F u;
-      repeats = c.count-part-repeats.ensures ∙ added-repeats K g.met.V.Value.total c.args.name c.args.moves.now F u;
-      fired = c.count-part-fired.ensures ∙ added-fired K g.met.V.Value.total c.args.name c.args.moves.now F u;
-      lapsed = c.count-part-lapsed.ensures ∙ added-lapsed K g.met.V.Value.total c.args.name c.args.moves.now F u;
-      struck = c.count-part-struck.ensures ∙ added-struck K g.met.V.Value.total c.args.name c.args.moves.now F u;
+      asked = c.count_part-asked.ensures ∙ added-asks K g.met.V.Value.total c.args.name c.args.moves.now F u;
+      repeats = c.count_part-repeats.ensures ∙ added-repeats K g.met.V.Value.total c.args.name c.args.moves.now F u;
+      fired = c.count_part-fired.ensures ∙ added-fired K g.met.V.Value.total c.args.name c.args.moves.now F u;
+      lapsed = c.count_part-lapsed.ensures ∙ added-lapsed K g.met.V.Value.total c.args.name c.args.moves.now F u;
+      struck = c.count_part-struck.ensures ∙ added-struck K g.met.V.Value.total c.args.name c.args.moves.now F u;
     }

@@ -4,13 +4,13 @@ use Rattle.rules.specs.Kinds.{values_by}
 use Rattle.step.specs.Counts.{count_from, is_counted}
 use Rattle.step.proofs.Counting.{count_next}
 use Rattle.step.proofs.counts.count_part.Goals as goal
-use Rattle.step.proofs.counts.count_part.Goals.{then-is-counted, else-is-counted}
+use Rattle.step.proofs.counts.count_part.Goals.{then-is_counted, else-is_counted}
 
 pub loop-i-preserved : goal.loop-i-preserved
 loop-i-preserved g c =
-    elim c.if-is-counted.branch [
-      | then-is-counted w ↦ (count_next (is_counted (values_by g.row.V-Value.order g.row.V-Value.blank g.row.V-Value.reads) c.args.moves.now (g.S.Shelf.items c.args.shelf.now) c.args.name c.args.part) c.args.moves.now c.loop-i.i c.index-moves-i.result c.loop-i-test.true c.index-moves-i.is true w.if-is-counted.ensures c.loop-i.total c.if-is-counted.total _ w.total-is c.loop-i.invariant.0, omega (arith, w.total-is, c.loop-i.invariant.1))
-      | else-is-counted w ↦ (count_next (is_counted (values_by g.row.V-Value.order g.row.V-Value.blank g.row.V-Value.reads) c.args.moves.now (g.S.Shelf.items c.args.shelf.now) c.args.name c.args.part) c.args.moves.now c.loop-i.i c.index-moves-i.result c.loop-i-test.true c.index-moves-i.is false w.if-is-counted.ensures c.loop-i.total c.if-is-counted.total _ (omega (arith, w.total-is)) c.loop-i.invariant.0, omega (arith, w.total-is, c.loop-i.invariant.1))
+    elim c.if-is_counted.branch [
+      | then-is_counted w ↦ (count_next (is_counted (values_by g.row.V-Value.order g.row.V-Value.blank g.row.V-Value.reads) c.args.moves.now (g.S.Shelf.items c.args.shelf.now) c.args.name c.args.part) c.args.moves.now c.loop-i.i c.index-moves-i.result c.loop-i-test.true c.index-moves-i.is true w.if-is_counted.ensures c.loop-i.total c.if-is_counted.total _ w.total-is c.loop-i.invariant.0, omega (arith, w.total-is, c.loop-i.invariant.1))
+      | else-is_counted w ↦ (count_next (is_counted (values_by g.row.V-Value.order g.row.V-Value.blank g.row.V-Value.reads) c.args.moves.now (g.S.Shelf.items c.args.shelf.now) c.args.name c.args.part) c.args.moves.now c.loop-i.i c.index-moves-i.result c.loop-i-test.true c.index-moves-i.is false w.if-is_counted.ensures c.loop-i.total c.if-is_counted.total _ (omega (arith, w.total-is)) c.loop-i.invariant.0, omega (arith, w.total-is, c.loop-i.invariant.1))
     ]
 
 pub returns : goal.returns

@@ -3,8 +3,8 @@ use Rattle.rules.specs.Kinds.{values_by}
 use Rattle.step.proofs.SetSizes.{held-there}
 use Rattle.step.proofs.sizes.is_there.Goals as goal
 
-pub returns-then-is-moved : goal.returns-then-is-moved
-returns-then-is-moved g c = let e = held-there (values_by g.row.V-Value.order g.row.V-Value.blank g.row.V-Value.reads) g.met.V.Value.total c.args.moves.now c.args.front.now (g.S.Shelf.items c.args.shelf.now) c.args.item.now in search rules
+pub returns-then-is_moved : goal.returns-then-is_moved
+returns-then-is_moved g c = let e = held-there (values_by g.row.V-Value.order g.row.V-Value.blank g.row.V-Value.reads) g.met.V.Value.total c.args.moves.now c.args.front.now (g.S.Shelf.items c.args.shelf.now) c.args.item.now in search rules
 
-pub returns-else-is-moved : goal.returns-else-is-moved
-returns-else-is-moved g c = let e = held-there (values_by g.row.V-Value.order g.row.V-Value.blank g.row.V-Value.reads) g.met.V.Value.total c.args.moves.now c.args.front.now (g.S.Shelf.items c.args.shelf.now) c.args.item.now in search rules
+pub returns-else-is_moved : goal.returns-else-is_moved
+returns-else-is_moved g c = let e = held-there (values_by g.row.V-Value.order g.row.V-Value.blank g.row.V-Value.reads) g.met.V.Value.total c.args.moves.now c.args.front.now (g.S.Shelf.items c.args.shelf.now) c.args.item.now in search rules

@@ -10,10 +10,10 @@ use Rattle.step.proofs.SetSteps.{new-set-is}
 use Rattle.step.proofs.sizes.new_size.Goals as goal
 
 pub loop-i-init : goal.loop-i-init
-loop-i-init g c = (c.left-size-size.ensures, omega arith)
+loop-i-init g c = (c.left_size-size.ensures, omega arith)
 
-pub size-after-size-requires : goal.size-after-size-requires
-size-after-size-requires g c =
+pub size_after-size-requires : goal.size_after-size-requires
+size_after-size-requires g c =
     let K = (values_by g.row.V-Value.order g.row.V-Value.blank g.row.V-Value.reads) in
     let t = g.met.V.Value.total in
     let F = g.S.Shelf.items c.args.shelf.now in
@@ -28,9 +28,9 @@ loop-i-preserved g c =
     let F = g.S.Shelf.items c.args.shelf.now in
     let u = g.met.S.Shelf.ascending c.args.shelf.now c.requires in
     let z : c.loop-i.i - 0 ≡ c.loop-i.i = omega arith in (
-      c.size-after-size.ensures.value ∙ ap (λ k. length (in_by g.row.V-Value.order c.index-moves-i.result (with_all (item_order g.row.V-Value.order) (left_by K c.args.moves.now F) (moved Asked (take k c.args.moves.now))))) z
+      c.size_after-size.ensures.value ∙ ap (λ k. length (in_by g.row.V-Value.order c.index-moves-i.result (with_all (item_order g.row.V-Value.order) (left_by K c.args.moves.now F) (moved Asked (take k c.args.moves.now))))) z
           ∙ ap length (with-next K t c.args.moves.now c.loop-i.i c.index-moves-i.result c.loop-i-test.true c.index-moves-i.is (left_by K c.args.moves.now F)),
-      omega (arith, c.size-after-size.ensures.most, c.loop-i.invariant.1),
+      omega (arith, c.size_after-size.ensures.most, c.loop-i.invariant.1),
     )
 
 pub returns : goal.returns

@@ -30,7 +30,7 @@ loop-name-preserved g c =
     let K = values_by g.row.V-Value.order g.row.V-Value.blank g.row.V-Value.reads in
     let many = g.E.Effect.of_entry c.args.effect.now c.args.at.now in
     let one = g.E.Effect.of_item c.args.effect.now c.args.at.now in
-    filling-more _ _ _ _ c.loop-name.invariant (joined-names g.row.V-Value.order (item_gives many K c.args.at.now F one) F c.loop-name.name (g.met.S.Shelf.ascending c.args.shelf.now c.requires)) c.name-into-after.ensures.out c.name-into-after.ensures.place
+    filling-more _ _ _ _ c.loop-name.invariant (joined-names g.row.V-Value.order (item_gives many K c.args.at.now F one) F c.loop-name.name (g.met.S.Shelf.ascending c.args.shelf.now c.requires)) c.name_into-after.ensures.out c.name_into-after.ensures.place
 
 pub returns : goal.returns
 returns g c =

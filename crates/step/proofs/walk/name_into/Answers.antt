@@ -10,7 +10,7 @@ pub returns-in-Every : goal.returns-in-Every
 returns-in-Every g c =
     let f = item_gives (g.E.Effect.of_entry c.args.effect.now c.args.at.now) (values_by g.row.V-Value.order g.row.V-Value.blank g.row.V-Value.reads) c.args.at.now (g.S.Shelf.items c.args.shelf.now) (g.E.Effect.of_item c.args.effect.now c.args.at.now) in
     let e = every-named g.row.V-Value.order f c.args.name (g.S.Shelf.items c.args.shelf.now) in
-    record { out = c.listed-into.ensures.out ∙ ap (fill c.args.out.now c.args.place) e; place = c.listed-into.ensures.place ∙ ap (places_after c.args.place) e }
+    record { out = c.listed_into.ensures.out ∙ ap (fill c.args.out.now c.args.place) e; place = c.listed_into.ensures.place ∙ ap (places_after c.args.place) e }
 
 pub returns-in-Only : goal.returns-in-Only
 returns-in-Only g c =
@@ -19,7 +19,7 @@ returns-in-Only g c =
     let many = g.E.Effect.of_entry c.args.effect.now c.args.at.now in
     let one = g.E.Effect.of_item c.args.effect.now c.args.at.now in
     let e = only-named g.row.V-Value.order (item_gives many K c.args.at.now F one) c.args.name F c.in-Only.value (λ x n s. let q = c.in-Only.ensures F x n s in quiet-gives K c.args.at.now F x many one q (g.met.E.Effect.quiet c.args.effect.now c.args.at.now x q.stays q.rests)) in
-    record { out = c.listed-into-in-Only.ensures.out ∙ ap (fill c.args.out.now c.args.place) e; place = c.listed-into-in-Only.ensures.place ∙ ap (places_after c.args.place) e }
+    record { out = c.listed_into-in-Only.ensures.out ∙ ap (fill c.args.out.now c.args.place) e; place = c.listed_into-in-Only.ensures.place ∙ ap (places_after c.args.place) e }
 
 pub returns-in-Nothing : goal.returns-in-Nothing
 returns-in-Nothing g c =

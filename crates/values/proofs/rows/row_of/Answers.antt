@@ -2,4 +2,4 @@ use Rattle.values.specs.ReferenceRows.{row_made}
 use Rattle.values.proofs.rows.row_of.Goals as goal
 
 pub returns : goal.returns
-returns c = row_made c.args.x c.put-number.new.buffer c.put-number-2.new.buffer c.put-number.ensures c.put-number-2.ensures
+returns c = row_made c.args.x c.put_number.new.buffer c.put_number-2.new.buffer c.put_number.ensures c.put_number-2.ensures

@@ -6,5 +6,5 @@ use Rattle.wordcounts.proofs.counts.no_words.Goals as goal
 pub returns-in-empty : goal.returns-in-empty
 returns-in-empty c = sym (ap no_words (texts-0 c.args.words.now (search rules)))
 
-pub returns-in-default : goal.returns-in-default
-returns-in-default c = sym (some_words c.args.words.now (search rules))
+pub returns-in_default : goal.returns-in_default
+returns-in_default c = sym (some_words c.args.words.now (search rules))

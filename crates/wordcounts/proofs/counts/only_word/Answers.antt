@@ -9,5 +9,5 @@ returns-in-empty c = ap only_word (texts-0 c.args.words.now (search rules))
 pub returns-in-len1 : goal.returns-in-len1
 returns-in-len1 c = ap only_word (texts-1 c.args.words.now no_word (search rules))
 
-pub returns-in-default : goal.returns-in-default
-returns-in-default c = many-words c.args.words.now (search rules)
+pub returns-in_default : goal.returns-in_default
+returns-in_default c = many-words c.args.words.now (search rules)

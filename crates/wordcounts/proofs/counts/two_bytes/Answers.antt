@@ -9,5 +9,5 @@ returns-in-len2 c = c.pair.ensures ∙ sym (ap two_bytes (texts-2 c.args.words.n
 pub returns-in-len2-up : goal.returns-in-len2-up
 returns-in-len2-up c = sym (long-pair c.args.words.now (search rules))
 
-pub returns-in-default : goal.returns-in-default
-returns-in-default c = sym (short-pair c.args.words.now (search rules))
+pub returns-in_default : goal.returns-in_default
+returns-in_default c = sym (short-pair c.args.words.now (search rules))

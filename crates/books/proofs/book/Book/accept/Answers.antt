@@ -7,8 +7,8 @@ use Rattle.rules.specs.Kinds.{values_by}
 use Rattle.books.proofs.Takes.{Most, counts-after, most-after, room-more}
 use Rattle.books.proofs.book.Book.accept.Goals as goal
 
-pub count-moves-requires : goal.count-moves-requires
-count-moves-requires g c =
+pub count_moves-requires : goal.count_moves-requires
+count_moves-requires g c =
     let b = c.args.self.now in
     record {
       right = c.requires.right.shelf;
@@ -21,19 +21,19 @@ returns g c =
     let K = values_by g.row.Of-Value.order g.row.Of-Value.blank g.row.Of-Value.reads in
     let b = c.args.self.now in
     let F = g.S.Shelf.items b.shelf in
-    let after = c.count-moves.ensures in
+    let after = c.count_moves.ensures in
     record {
       right = record {
-        shelf = c.write-and-apply.ensures.right;
-        few = omega (arith, c.requires.more, c.next-number-number.ensures);
-        counts = subst (λ n. Most b.phase n c.count-moves.new.tallies) (sym c.next-number-number.ensures) (most-after K c.args.buffer.now c.args.count F b.tallies c.count-moves.new.tallies after b.phase b.accepted c.requires.right.counts (omega (arith, c.ranges.count.fits)));
+        shelf = c.write_and_apply.ensures.right;
+        few = omega (arith, c.requires.more, c.next_number-number.ensures);
+        counts = subst (λ n. Most b.phase n c.count_moves.new.tallies) (sym c.next_number-number.ensures) (most-after K c.args.buffer.now c.args.count F b.tallies c.count_moves.new.tallies after b.phase b.accepted c.requires.right.counts (omega (arith, c.ranges.count.fits)));
       };
       book = record {
         phase = refl;
-        accepted = c.next-number-number.ensures;
-        items = c.write-and-apply.ensures.items;
-        limit = c.write-and-apply.ensures.limit;
-        counts = counts-after K c.args.buffer.now c.args.count F b.tallies c.count-moves.new.tallies after _ c.requires.moves;
+        accepted = c.next_number-number.ensures;
+        items = c.write_and_apply.ensures.items;
+        limit = c.write_and_apply.ensures.limit;
+        counts = counts-after K c.args.buffer.now c.args.count F b.tallies c.count_moves.new.tallies after _ c.requires.moves;
       };
-      findings = c.write-and-apply.ensures.findings ∙ ap (λ n. fill c.args.findings.now 0 (findings_at K (sheet_in c.args.at.now) n F (event_in c.args.at.now))) c.next-number-number.ensures;
+      findings = c.write_and_apply.ensures.findings ∙ ap (λ n. fill c.args.findings.now 0 (findings_at K (sheet_in c.args.at.now) n F (event_in c.args.at.now))) c.next_number-number.ensures;
     }

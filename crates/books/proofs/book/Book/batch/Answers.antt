@@ -10,8 +10,8 @@ returns-in-Ok g c =
     let s = view_of c.args.sheet.now in
     let b = book_view g.S.Shelf.items g.S.Shelf.limit c.args.self.now in
     record {
-      right = c.put-all.ensures.right;
-      served = batch-served K s b c.args.bytes.now c.args.moves.now c.args.findings.now c.in-Ok.ensures.answer c.put-all.result c.put-all.new.moves c.put-all.new.findings (book_view g.S.Shelf.items g.S.Shelf.limit c.put-all.new.self) c.put-all.ensures.came;
+      right = c.put_all.ensures.right;
+      served = batch-served K s b c.args.bytes.now c.args.moves.now c.args.findings.now c.in-Ok.ensures.answer c.put_all.result c.put_all.new.moves c.put_all.new.findings (book_view g.S.Shelf.items g.S.Shelf.limit c.put_all.new.self) c.put_all.ensures.came;
     }
 
 pub returns-in-Err : goal.returns-in-Err

@@ -6,21 +6,21 @@ use Rattle.books.specs.View.{book_view}
 use Rattle.books.proofs.Compares.{agreed, disagreed}
 use Rattle.books.proofs.book.Book.compare.Goals as goal
 
-pub returns-then-same-items : goal.returns-then-same-items
-returns-then-same-items g c =
+pub returns-then-same_items : goal.returns-then-same_items
+returns-then-same_items g c =
     let b = c.args.self.now in
     let d = c.args.other.now in
-    let t = c.same-tallies.ensures in
+    let t = c.same_tallies.ensures in
     record {
-      agree = λ h. agreed b.phase d.phase b.accepted d.accepted b.tallies d.tallies _ _ (g.S.Shelf.limit b.shelf) (g.T.Shelf.limit d.shelf) (c.if-same-items.ensures.same refl) (sym t.answer ∙ h);
+      agree = λ h. agreed b.phase d.phase b.accepted d.accepted b.tallies d.tallies _ _ (g.S.Shelf.limit b.shelf) (g.T.Shelf.limit d.shelf) (c.if-same_items.ensures.same refl) (sym t.answer ∙ h);
       differ = λ h. t.answer ∙ disagreed b.phase d.phase b.accepted d.accepted b.tallies d.tallies _ _ (g.S.Shelf.limit b.shelf) (g.T.Shelf.limit d.shelf) t.left t.other h;
       law = law (values_by g.row.Of-Value.order g.row.Of-Value.blank g.row.Of-Value.reads) g.met.Of.Value.total (book_view g.S.Shelf.items g.S.Shelf.limit) (book_view g.T.Shelf.items g.T.Shelf.limit);
     }
 
-pub returns-else-same-items : goal.returns-else-same-items
-returns-else-same-items g c =
+pub returns-else-same_items : goal.returns-else-same_items
+returns-else-same_items g c =
     record {
-      agree = λ h. absurd (false≢true (sym c.if-same-items.false ∙ h));
-      differ = λ h. c.same-items.ensures.differ h.items;
+      agree = λ h. absurd (false≢true (sym c.if-same_items.false ∙ h));
+      differ = λ h. c.same_items.ensures.differ h.items;
       law = law (values_by g.row.Of-Value.order g.row.Of-Value.blank g.row.Of-Value.reads) g.met.Of.Value.total (book_view g.S.Shelf.items g.S.Shelf.limit) (book_view g.T.Shelf.items g.T.Shelf.limit);
     }

@@ -17,8 +17,8 @@ returns-in-Some g c =
     let s = view_of c.args.sheet.now in
     let b = book_view g.S.Shelf.items g.S.Shelf.limit c.args.self.now in
     let small : length c.args.findings.now < last_place = omega (arith, c.well-formed) in
-    let counted = c.count-hot-count.ensures ∙ ap (λ ds. capped (length (hot_by ds b.accepted b.items))) c.states.ensures.value in
-    record { right = c.requires; served = end_refused K s b c.args.findings.now c.count-hot-count.result small counted c.in-Some.refusal c.in-Some.ensures.answer }
+    let counted = c.count_hot-count.ensures ∙ ap (λ ds. capped (length (hot_by ds b.accepted b.items))) c.states.ensures.value in
+    record { right = c.requires; served = end_refused K s b c.args.findings.now c.count_hot-count.result small counted c.in-Some.refusal c.in-Some.ensures.answer }
 
 pub returns-in-None : goal.returns-in-None
 unfolding ended_book
@@ -27,10 +27,10 @@ returns-in-None g c =
     let s = view_of c.args.sheet.now in
     let b = book_view g.S.Shelf.items g.S.Shelf.limit c.args.self.now in
     let small : length c.args.findings.now < last_place = omega (arith, c.well-formed) in
-    let counted = c.count-hot-count.ensures ∙ ap (λ ds. capped (length (hot_by ds b.accepted b.items))) c.states.ensures.value in
+    let counted = c.count_hot-count.ensures ∙ ap (λ ds. capped (length (hot_by ds b.accepted b.items))) c.states.ensures.value in
     let may = c.in-None.ensures.may refl in
     let ended = c.advance.ensures.phase ∙ ap (λ p. phase_after p call.End) may.«open» in
     record {
       right = record { shelf = c.requires.shelf; few = c.requires.few; counts = subst (λ p. Most p b.accepted c.args.self.now.tallies) (sym ended) (subst (λ p. Most p b.accepted c.args.self.now.tallies) may.«open» c.requires.counts) };
-      served = end-taken K s b c.args.findings.now c.count-hot-count.result small counted c.in-None.ensures.answer may.fits c.listed-into.new.out (c.listed-into.ensures.out ∙ ap (λ ds. fill c.args.findings.now 0 (hot_by ds b.accepted b.items)) c.states.ensures.value) _ (record { phase = ended; accepted = refl; items = refl; limit = refl; counts = λ k n l. refl });
+      served = end-taken K s b c.args.findings.now c.count_hot-count.result small counted c.in-None.ensures.answer may.fits c.listed_into.new.out (c.listed_into.ensures.out ∙ ap (λ ds. fill c.args.findings.now 0 (hot_by ds b.accepted b.items)) c.states.ensures.value) _ (record { phase = ended; accepted = refl; items = refl; limit = refl; counts = λ k n l. refl });
     }

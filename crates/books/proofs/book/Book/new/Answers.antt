@@ -13,13 +13,13 @@ returns g c =
       right = record {
         shelf = c.requires;
         few = omega arith;
-        counts = λ k n h. omega (arith, ap (λ ts. count_in (get_or ts n no_tally) k) c.no-tallies.ensures ∙ a.counts k n h);
+        counts = λ k n h. omega (arith, ap (λ ts. count_in (get_or ts n no_tally) k) c.no_tallies.ensures ∙ a.counts k n h);
       };
       made = record {
         phase = refl;
         accepted = refl;
         items = refl;
         limit = refl;
-        counts = λ k n h. ap (λ ts. count_in (get_or ts n no_tally) k) c.no-tallies.ensures ∙ a.counts k n h;
+        counts = λ k n h. ap (λ ts. count_in (get_or ts n no_tally) k) c.no_tallies.ensures ∙ a.counts k n h;
       };
     }

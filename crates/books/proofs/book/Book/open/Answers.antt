@@ -16,7 +16,7 @@ start-requires g c =
       phase = may.blank;
       empty = empty-list _ (omega (arith, may.empty, c.count.ensures));
       few = c.states-states.ensures.few;
-      room = omega (arith, may.room, c.limit.ensures, c.count-inits.ensures);
+      room = omega (arith, may.room, c.limit.ensures, c.count_inits.ensures);
     }
 
 pub returns-in-Some : goal.returns-in-Some
@@ -24,10 +24,10 @@ returns-in-Some g c =
     let K = values_by g.row.Of-Value.order g.row.Of-Value.blank g.row.Of-Value.reads in
     let s = view_of c.args.sheet.now in
     let b = book_view g.S.Shelf.items g.S.Shelf.limit c.args.self.now in
-    let inits = c.count-inits.ensures ∙ ap (how_many is_init) c.states-states.ensures.value in
+    let inits = c.count_inits.ensures ∙ ap (how_many is_init) c.states-states.ensures.value in
     record {
       right = c.requires;
-      served = open-refused K s b c.count.result c.limit.result c.count-inits.result c.count.ensures c.limit.ensures inits c.in-Some.refusal c.in-Some.ensures.answer;
+      served = open-refused K s b c.count.result c.limit.result c.count_inits.result c.count.ensures c.limit.ensures inits c.in-Some.refusal c.in-Some.ensures.answer;
     }
 
 pub returns-in-None : goal.returns-in-None
@@ -36,8 +36,8 @@ returns-in-None g c =
     let s = view_of c.args.sheet.now in
     let b = book_view g.S.Shelf.items g.S.Shelf.limit c.args.self.now in
     let b' = book_view g.S.Shelf.items g.S.Shelf.limit c.start.new.self in
-    let inits = c.count-inits.ensures ∙ ap (how_many is_init) c.states-states.ensures.value in
+    let inits = c.count_inits.ensures ∙ ap (how_many is_init) c.states-states.ensures.value in
     record {
       right = c.start.ensures.right;
-      served = open-taken K s b c.count.result c.limit.result c.count-inits.result c.count.ensures c.limit.ensures inits b' c.in-None.ensures.answer (subst (λ ds. Opened K ds b b') c.states-states.ensures.value c.start.ensures.opened);
+      served = open-taken K s b c.count.result c.limit.result c.count_inits.result c.count.ensures c.limit.ensures inits b' c.in-None.ensures.answer (subst (λ ds. Opened K ds b b') c.states-states.ensures.value c.start.ensures.opened);
     }

@@ -11,12 +11,12 @@ returns-in-Ok g c =
     let K = values_by g.row.Of-Value.order g.row.Of-Value.blank g.row.Of-Value.reads in
     let s = view_of c.args.sheet.now in
     let b = book_view g.S.Shelf.items g.S.Shelf.limit c.args.self.now in
-    let b' = book_view g.S.Shelf.items g.S.Shelf.limit c.put-rest.new.self in
+    let b' = book_view g.S.Shelf.items g.S.Shelf.limit c.put_rest.new.self in
     let h = c.in-Ok.ensures in
     record {
       right = h.right;
-      batch = λ t. record { few = omega (arith, c.requires.batch.few, accepted-one K s c.args.place b c.args.event.now c.args.moves.now _ c.in-Ok.taken c.put-rest.new.moves _ b' h.came); within = omega (arith, h.fits, c.put-rest.auto.findings); unrefused = c.requires.batch.unrefused };
-      came = left-more K s b c.args.moves.now c.args.findings.now c.args.done.now c.requires.batch.unrefused c.args.place c.args.event.now c.put-rest.new.moves c.put-rest.new.findings b' h.front c.in-Ok.taken h.came;
+      batch = λ t. record { few = omega (arith, c.requires.batch.few, accepted-one K s c.args.place b c.args.event.now c.args.moves.now _ c.in-Ok.taken c.put_rest.new.moves _ b' h.came); within = omega (arith, h.fits, c.put_rest.auto.findings); unrefused = c.requires.batch.unrefused };
+      came = left-more K s b c.args.moves.now c.args.findings.now c.args.done.now c.requires.batch.unrefused c.args.place c.args.event.now c.put_rest.new.moves c.put_rest.new.findings b' h.front c.in-Ok.taken h.came;
     }
 
 pub returns-in-Err : goal.returns-in-Err
@@ -24,10 +24,10 @@ returns-in-Err g c =
     let K = values_by g.row.Of-Value.order g.row.Of-Value.blank g.row.Of-Value.reads in
     let s = view_of c.args.sheet.now in
     let b = book_view g.S.Shelf.items g.S.Shelf.limit c.args.self.now in
-    let b' = book_view g.S.Shelf.items g.S.Shelf.limit c.put-rest.new.self in
+    let b' = book_view g.S.Shelf.items g.S.Shelf.limit c.put_rest.new.self in
     let h = c.in-Err.ensures in
     record {
       right = h.right;
       batch = λ t. absurd (false≢true t);
-      came = left-refused K s b c.args.moves.now c.args.findings.now c.args.done.now c.requires.batch.unrefused c.args.place c.args.event.now c.put-rest.new.moves c.put-rest.new.findings b' h.front c.in-Err.refusal h.came;
+      came = left-refused K s b c.args.moves.now c.args.findings.now c.args.done.now c.requires.batch.unrefused c.args.place c.args.event.now c.put_rest.new.moves c.put_rest.new.findings b' h.front c.in-Err.refusal h.came;
     }

@@ -18,14 +18,14 @@ returns-in-Some g c =
     let p = c.args.reader.now.place in
     let p' = c.next.new.self.place in
     let r = read_one g.row.Of-Value.reads bytes p c.in-Some.event p' (ap (λ o. Ok o) (sym c.in-Some.is) ∙ c.in-Ok.ensures.answer) c.in-Ok.ensures.place in
-    let h = c.put-event.ensures in
+    let h = c.put_event.ensures in
     record {
       right = h.right;
       batch = h.batch;
       bytes = c.in-Ok.ensures.bytes;
       before = λ t. r.before;
       further = λ t. r.further;
-      came = subst (λ rs. SameAs (left_now K s c.put-event.result (book_view g.S.Shelf.items g.S.Shelf.limit c.put-event.new.self) c.put-event.new.moves c.put-event.new.findings c.put-event.new.done (records_at g.row.Of-Value.reads bytes p')) (left_by K s b c.args.moves.now c.args.findings.now c.args.done.now rs)) (ap (λ q. one q c.in-Some.event (records_at g.row.Of-Value.reads bytes p')) c.record-start-place.ensures ∙ sym r.rest) (h.came (records_at g.row.Of-Value.reads bytes p'));
+      came = subst (λ rs. SameAs (left_now K s c.put_event.result (book_view g.S.Shelf.items g.S.Shelf.limit c.put_event.new.self) c.put_event.new.moves c.put_event.new.findings c.put_event.new.done (records_at g.row.Of-Value.reads bytes p')) (left_by K s b c.args.moves.now c.args.findings.now c.args.done.now rs)) (ap (λ q. one q c.in-Some.event (records_at g.row.Of-Value.reads bytes p')) c.record_start-place.ensures ∙ sym r.rest) (h.came (records_at g.row.Of-Value.reads bytes p'));
     }
 
 pub returns-in-None : goal.returns-in-None

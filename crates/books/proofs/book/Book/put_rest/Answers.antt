@@ -16,13 +16,13 @@ returns g c =
     let e = c.args.event.now in
     let pad = c.args.moves.now in
     let b = book_view g.S.Shelf.items g.S.Shelf.limit c.args.self.now in
-    let b' = book_view g.S.Shelf.items g.S.Shelf.limit c.put-at.new.self in
+    let b' = book_view g.S.Shelf.items g.S.Shelf.limit c.put_at.new.self in
     let roll = c.args.findings.now in
     let from = c.args.from in
-    let came = subst (λ l. Came (put_at K s c.args.place b e pad l) c.put-at.result c.put-at.new.moves c.put-at.new.findings b') (take_rest roll from) c.put-at.ensures.came in
+    let came = subst (λ l. Came (put_at K s c.args.place b e pad l) c.put_at.result c.put_at.new.moves c.put_at.new.findings b') (take_rest roll from) c.put_at.ensures.came in
     record {
-      right = c.put-at.ensures.right;
-      front = take-put_mid_below from (length roll - from) roll c.put-at.new.findings from (omega arith) c.requires.within;
-      came = subst (λ l. Came (put_at K s c.args.place b e pad (drop from roll)) c.put-at.result c.put-at.new.moves l b') (sym (written-rest from roll c.put-at.new.findings c.requires.within)) came;
-      fits = made-fits K s c.args.place b e pad (drop from roll) from (length roll) (omega (arith, length-drop from roll, c.requires.within)) c.put-at.result came.back;
+      right = c.put_at.ensures.right;
+      front = take-put_mid_below from (length roll - from) roll c.put_at.new.findings from (omega arith) c.requires.within;
+      came = subst (λ l. Came (put_at K s c.args.place b e pad (drop from roll)) c.put_at.result c.put_at.new.moves l b') (sym (written-rest from roll c.put_at.new.findings c.requires.within)) came;
+      fits = made-fits K s c.args.place b e pad (drop from roll) from (length roll) (omega (arith, length-drop from roll, c.requires.within)) c.put_at.result came.back;
     }

@@ -23,7 +23,7 @@ settle-requires g c =
       right = c.requires.right;
       more = c.requires.more;
       fits = λ h.
-          let fit = c.late-refusal-refusal.ensures.fits h in
+          let fit = c.late_refusal-refusal.ensures.fits h in
           let front = pad-front K s c.args.place b e c.args.moves.now c.args.findings.now pad' z.moves z.findings short small v.out v.moved v.found fit.moved in
           record { within = fit.moved; front = front; written = fit.found; held = omega (arith, fit.held, ap (λ l. length (new_set K l b.items)) front) };
     }
@@ -37,13 +37,13 @@ returns g c =
     let z = c.survey-sizes.result in
     let pad' = c.survey-sizes.new.moves in
     let v = c.survey-sizes.ensures in
-    let l = c.late-refusal-refusal.ensures in
+    let l = c.late_refusal-refusal.ensures in
     let t = c.settle.ensures in
     let short : length c.args.moves.now < last_place = omega (arith, c.well-formed) in
     let small : length c.args.findings.now < last_place = omega (arith, c.well-formed) in
     record {
       right = t.right;
       came = came-settled K s c.args.place (view c.args.self.now) e c.args.moves.now c.args.findings.now pad' z.moves z.findings short small v.out v.moved v.found
-          c.late-refusal-refusal.result l.answer l.fits c.settle.result c.settle.new.findings (view c.settle.new.self)
+          c.late_refusal-refusal.result l.answer l.fits c.settle.result c.settle.new.findings (view c.settle.new.self)
           (λ x h. let r = t.refused x h in (r.0, r.1, ap view r.2)) t.taken;
     }

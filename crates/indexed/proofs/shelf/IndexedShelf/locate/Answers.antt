@@ -18,8 +18,8 @@ returns-in-Equal g c =
     c.index-cell.result.now c.index-cell.ensures c.if-cell-self.false c.index.result.now c.index.ensures (sym c.in-Equal.ensures) in
     record { is = r.0; there = r.1; found = r.2 }
 
-pub returns-in-default : goal.returns-in-default
-returns-in-default g c =
+pub returns-in_default : goal.returns-in_default
+returns-in_default g c =
     other-there g.met.V.Value.total g.met.V.Bucketed.below c.requires.right c.args.item.now c.requires.name c.args.before c.requires.before
     c.index-cell.result.now c.index-cell.ensures c.if-cell-self.false c.index.result.now c.index.ensures
-    (λ n. c.in-default.not-Equal (c.compare.ensures ∙ n))
+    (λ n. c.in_default.not-Equal (c.compare.ensures ∙ n))

@@ -21,7 +21,7 @@ index-mut-requires g c =
 pub link-requires : goal.link-requires
 link-requires g c =
     let h = i-small g.met.V.Value.total g.V.Bucketed.bucket_of g.row.V-Value.blank c.requires.right c.args.item c.in-Some.cell c.pop.new.self.items c.in-Some.ensures.items in
-    let l = last-small g.met.V.Value.total g.met.V.Bucketed.below c.requires.right name_of c.args.item c.thread-before-thread-before.result c.thread-before-thread-before.ensures in
+    let l = last-small g.met.V.Value.total g.met.V.Bucketed.below c.requires.right name_of c.args.item c.thread_before-thread_before.result c.thread_before-thread_before.ensures in
     (omega (arith, c.requires.right.threads_long, c.args.self.now.threads.ok.0, c.requires.name), omega (arith, c.requires.right.threads_long, c.args.self.now.threads.ok.0))
 
 pub link-requires-in-Some : goal.link-requires-in-Some
@@ -35,6 +35,6 @@ pub returns : goal.returns
 returns g c =
     let r = put g.met.V.Value.total g.met.V.Bucketed.below c.requires.right c.args.item c.requires.name (put-since _ _ _ c.requires.answer).0
     c.in-Some.cell c.pop.new.self.items c.in-Some.ensures.items
-    c.thread-before-thread-before.result c.args.before c.thread-before-thread-before.ensures c.requires.before
+    c.thread_before-thread_before.result c.args.before c.thread_before-thread_before.ensures c.requires.before
     c.link.new.links.items c.link-in-Some.new.links.items c.link.ensures c.link-in-Some.ensures in
     record { right = r.0; items = r.1; limit = refl }

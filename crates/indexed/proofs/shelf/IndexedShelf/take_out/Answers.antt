@@ -7,7 +7,7 @@ use Rattle.indexed.proofs.shelf.IndexedShelf.take_out.Goals as goal
 pub unlink-requires : goal.unlink-requires
 unlink-requires g c =
     let h = one_out g.met.V.Value.total g.met.V.Bucketed.below c.requires.right _ _ _ c.requires.there.there in
-    let l = last-small g.met.V.Value.total g.met.V.Bucketed.below c.requires.right name_of c.args.item.now c.thread-before-thread-before.result c.thread-before-thread-before.ensures in
+    let l = last-small g.met.V.Value.total g.met.V.Bucketed.below c.requires.right name_of c.args.item.now c.thread_before-thread_before.result c.thread_before-thread_before.ensures in
     (omega (arith, c.requires.right.threads_long, c.args.self.now.threads.ok.0, c.requires.name), omega (arith, c.requires.right.threads_long, c.args.self.now.threads.ok.0))
 
 pub unlink-requires-2 : goal.unlink-requires-2
@@ -26,6 +26,6 @@ pub returns : goal.returns
 returns g c =
     let w = c.requires.there in
     let r = out g.met.V.Value.total g.met.V.Bucketed.below c.requires.right c.args.cell c.push.new.self.items c.in-Ok.ensures.items
-    c.thread-before-thread-before.result c.args.before c.unlink.new.links.items c.unlink-2.new.links.items c.unlink.ensures c.unlink-2.ensures
-    c.args.item.now w.is w.found _ w.there c.thread-before-thread-before.ensures c.requires.before in
+    c.thread_before-thread_before.result c.args.before c.unlink.new.links.items c.unlink-2.new.links.items c.unlink.ensures c.unlink-2.ensures
+    c.args.item.now w.is w.found _ w.there c.thread_before-thread_before.ensures c.requires.before in
     record { right = r.0; items = r.1; limit = refl }

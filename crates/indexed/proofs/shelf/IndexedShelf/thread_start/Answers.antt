@@ -5,7 +5,7 @@ use Rattle.indexed.proofs.shelf.IndexedShelf.thread_start.Goals as goal
 pub returns-then-before-self : goal.returns-then-before-self
 returns-then-before-self g c =
     let x = c.in-Some.x in
-    let b = c.chain-before-before in
+    let b = c.chain_before-before in
     record {
       walk = entry-walk g.met.V.Value.total g.met.V.Bucketed.below c.requires x b.ensures.name b.result b.ensures.value c.if-before-self.true;
       first = entry-begins g.met.V.Value.total g.met.V.Bucketed.below c.requires x b.ensures.name b.result b.ensures.value c.if-before-self.true
@@ -23,7 +23,7 @@ returns g c =
 pub returns-in-Some-locate : goal.returns-in-Some-locate
 returns-in-Some-locate g c =
     let x = c.in-Some.x in
-    let b = c.chain-before-before in
+    let b = c.chain_before-before in
     let w = c.in-Some-locate.ensures in
     record {
       walk = held-walk g.met.V.Value.total g.met.V.Bucketed.below c.requires x b.ensures.name c.in-Some-locate.cell w.is _ w.there;

@@ -5,5 +5,5 @@ use Rattle.sorted.proofs.shelf.SortedShelf.stands_at.Goals as goal
 
 pub returns : goal.returns
 returns g c =
-    c.is-some.ensures ∙ ap is_some c.find.ensures
+    c.is_some.ensures ∙ ap is_some c.find.ensures
     ∙ sym (held_first (item-total g.met.V.Value.total) c.args.item.now c.args.self.now.cells.items)

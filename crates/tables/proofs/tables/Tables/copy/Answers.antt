@@ -5,6 +5,6 @@ use Rattle.tables.proofs.tables.Tables.copy.Goals as goal
 pub returns : goal.returns
 returns g c =
     same_tables c.args.self.now.kinds
-    (c.in-ok-from-slice.ensures.items ∙ c.as-slice.ensures.value)
-    (c.in-ok-from-slice-2.ensures.items ∙ c.as-slice-2.ensures.value)
-    (c.in-ok-from-slice-3.ensures.items ∙ c.as-slice-3.ensures.value)
+    (c.in_ok-from_slice.ensures.items ∙ c.as_slice.ensures.value)
+    (c.in_ok-from_slice-2.ensures.items ∙ c.as_slice-2.ensures.value)
+    (c.in_ok-from_slice-3.ensures.items ∙ c.as_slice-3.ensures.value)

@@ -3,9 +3,9 @@ use Rattle.items.proofs.Orders.{item-total}
 use Rattle.items.proofs.Ascending.{without-none}
 use Rattle.sorted.proofs.shelf.calls.SortedShelfShelf.remove.Goals as goal
 
-pub returns-then-not-stands-at : goal.returns-then-not-stands-at
-returns-then-not-stands-at g c =
-    let n = c.if-not-stands-at.ensures in
+pub returns-then-not-stands_at : goal.returns-then-not-stands_at
+returns-then-not-stands_at g c =
+    let n = c.if-not-stands_at.ensures in
     record {
       right = c.requires;
       answer = n;
