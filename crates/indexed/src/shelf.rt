@@ -5,10 +5,9 @@
 ghost use Rattle.std.specs.Prelude.{◌≤◌, vec_capacity};
 
 use items::Item;
-use values::Bucketed;
 
 #[derive(Drop)]
-pub struct IndexedShelf<V: Bucketed> {
+pub struct IndexedShelf<V> {
     cells: Vec<Item<V>>,
     threads: Vec<u32>,
     chains: Vec<u32>,

@@ -2,7 +2,7 @@
 use Rattle.std.specs.Prelude.{◌≡◌, ℕ, true, List, vec_items}
 use Rattle.std.specs.declared.cmp.Ordering.{Ordering}
 use Rattle.items.specs.Ascending.{ascends}
-use Rattle.items.specs.Items.{ByteNames, item_order}
+use Rattle.items.specs.Items.{item_order}
 use Rattle.items.specs.declared.item.Item.{Item}
 use Rattle.sorted.specs.declared.shelf.SortedShelf.{SortedShelf}
 
@@ -15,7 +15,6 @@ module _ {V : Type 0} where
   abbrev pub sorted_limit : SortedShelf V → ℕ
   sorted_limit s = s.limit
 
--- it is rightly made: its items ascend, and their names are bytes
-pub record SortedRight {V : Type 0} (order : V → V → Ordering) (s : SortedShelf V) : Type 0 where
-  pub rising : ascends (item_order order) (sorted_items s) ≡ true
-  pub bytes : ByteNames (sorted_items s)
+  -- it is rightly made: its items ascend
+  abbrev pub SortedRight : (V → V → Ordering) → SortedShelf V → Type 0
+  SortedRight order s = ascends (item_order order) (sorted_items s) ≡ true

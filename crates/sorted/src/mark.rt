@@ -7,8 +7,8 @@ use std::cmp::Ordering;
 use values::Value;
 
 // One item; or the items of a name, of a first value if one is given, above an item if one is given.
-#[derive(Drop)]
-pub enum Mark<V: Value> {
+#[derive(Clone, Copy)]
+pub enum Mark<V> {
     At(Item<V>),
     Among(u8, Option<V>, Option<Item<V>>),
 }

@@ -8,7 +8,6 @@ ghost use Rattle.items.specs.declared.added.Added.TheVariants.{Put};
 ghost use Rattle.sorted.specs.Meaning.{sorted_items, sorted_limit, SortedRight};
 ghost use Rattle.sorted.specs.Place.{place_of};
 ghost use Rattle.sorted.specs.declared.mark.Mark.TheVariants.{At};
-ghost use Rattle.std.proofs.Common.{rules, arith};
 
 use super::SortedShelf;
 use crate::mark::Mark;
@@ -125,11 +124,11 @@ impl<V: Value> Shelf for SortedShelf<V> {
 
     ghost right = { λ s. SortedRight V.Value.order s };
 
-    ghost ascending = { first_of (Prim.search rules, Prim.grind (arith, Self.row.coded.inj)) };
+    ghost ascending = { λ s r. r };
 
-    ghost bounded = { first_of (Prim.search rules, Prim.grind (arith, Self.row.coded.inj)) };
+    ghost bounded = { λ s r. s.bounded };
 
-    ghost bytes = { first_of (Prim.search rules, Prim.grind (arith, Self.row.coded.inj)) };
+    ghost bytes = { λ s r. s.names };
 
     fn limit(&self) -> usize {
         self.limit

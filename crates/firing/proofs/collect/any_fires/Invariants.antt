@@ -8,6 +8,6 @@ use Rattle.firing.proofs.collect.any_fires.Given as goal
 
 abbrev pub invariant-loop-row : goal.invariant-loop-row
 invariant-loop-row g l =
-    let K = values_by g.row.V-Value.order g.row.V-Value.blank g.row.V-Value.reads in
+    let K = values_by g.V.Value.order g.V.Value.blank g.V.Value.reads in
     let F = g.S.Shelf.items l.shelf in
     is_filled (fired_rows K (sheet_in l.at) F (event_in l.at) l.item) ≡ is_filled (fired_from K (sheet_in l.at) (event_in l.at) l.item F l.row-index)

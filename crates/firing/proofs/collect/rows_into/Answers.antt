@@ -10,21 +10,21 @@ use Rattle.firing.proofs.collect.rows_into.Goals as goal
 pub loop-i-init : goal.loop-i-init
 loop-i-init g c =
     let f = row_gives (g.E.Effect.of_entry c.args.effect.now c.args.at.now) c.args.item.now in
-    filling-start _ _ _ _ (ap (flat_map f) (fired-start (values_by g.row.V-Value.order g.row.V-Value.blank g.row.V-Value.reads) (sheet_in c.args.at.now) (event_in c.args.at.now) c.args.item.now (g.S.Shelf.items c.args.shelf.now)))
+    filling-start _ _ _ _ (ap (flat_map f) (fired-start (values_by g.V.Value.order g.V.Value.blank g.V.Value.reads) (sheet_in c.args.at.now) (event_in c.args.at.now) c.args.item.now (g.S.Shelf.items c.args.shelf.now)))
 
 pub loop-i-preserved : goal.loop-i-preserved
 loop-i-preserved g c =
     let f = row_gives (g.E.Effect.of_entry c.args.effect.now c.args.at.now) c.args.item.now in
-    filling-more _ _ _ _ c.loop-i.invariant (fired-more (values_by g.row.V-Value.order g.row.V-Value.blank g.row.V-Value.reads) (sheet_in c.args.at.now) (event_in c.args.at.now) c.args.item.now (g.S.Shelf.items c.args.shelf.now) c.loop-i.i _ c.loop-i-test.true f) c.row_into-after.ensures.out c.row_into-after.ensures.place
+    filling-more _ _ _ _ c.loop-i.invariant (fired-more (values_by g.V.Value.order g.V.Value.blank g.V.Value.reads) (sheet_in c.args.at.now) (event_in c.args.at.now) c.args.item.now (g.S.Shelf.items c.args.shelf.now) c.loop-i.i _ c.loop-i-test.true f) c.row_into-after.ensures.out c.row_into-after.ensures.place
 
 pub returns : goal.returns
 returns g c =
     let f = row_gives (g.E.Effect.of_entry c.args.effect.now c.args.at.now) c.args.item.now in
-    let e = ap (flat_map f) (fired-end (values_by g.row.V-Value.order g.row.V-Value.blank g.row.V-Value.reads) (sheet_in c.args.at.now) (event_in c.args.at.now) c.args.item.now (g.S.Shelf.items c.args.shelf.now) c.loop-i.i c.loop-i-test.false) in
+    let e = ap (flat_map f) (fired-end (values_by g.V.Value.order g.V.Value.blank g.V.Value.reads) (sheet_in c.args.at.now) (event_in c.args.at.now) c.args.item.now (g.S.Shelf.items c.args.shelf.now) c.loop-i.i c.loop-i-test.false) in
     record { out = filled-all c.loop-i.invariant e; place = counted-all c.loop-i.invariant e }
 
-pub overflow-cast-i : goal.overflow-cast-i
-overflow-cast-i g c =
+pub overflow_cast-i : goal.overflow_cast-i
+overflow_cast-i g c =
     let s = c.args.at.now in
     let h = few-rows (sheet_in s).states (sheet_in s).rows (sheet_in s).kinds (length (sheet_in s).constants) s.sound in
     record { fits = omega (arith, h, c.loop-i-test.true) }

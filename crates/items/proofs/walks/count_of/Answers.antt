@@ -6,7 +6,7 @@ use Rattle.items.proofs.walks.count_of.Goals as goal
 pub returns-in-None : goal.returns-in-None
 returns-in-None g c =
     let s = c.args.shelf.now in
-    let e = ap length (kept-none (wanted g.row.S-Of-Value.order c.args.name None c.loop-count.last) (g.S.Shelf.items s) (sym c.in-None.ensures)) in
+    let e = ap length (kept-none (wanted g.S.Of.Value.order c.args.name None c.loop-count.last) (g.S.Shelf.items s) (sym c.in-None.ensures)) in
     omega (arith, e, c.loop-count.invariant)
 
 pub loop-count-preserved : goal.loop-count-preserved

@@ -8,4 +8,4 @@ pub returns : goal.returns
 returns g c =
     let xs = g.S.Shelf.items c.args.shelf.now in
     let room = c.args.room.now in
-    c.listed_into.ensures.out ∙ ap (fill room 0) (listed-all xs) ∙ fill-front room xs (omega (arith, c.well-formed)) ∙ filled-reach xs room
+    c.listed_into.ensures.out ∙ ap (fill room 0) (listed-all xs) ∙ fill-front room xs (omega (arith, c.well_formed)) ∙ filled-reach xs room

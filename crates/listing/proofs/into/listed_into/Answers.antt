@@ -11,7 +11,7 @@ pub loop-name-preserved : goal.loop-name-preserved
 loop-name-preserved g c =
     let s = c.args.shelf.now in
     filling-more _ _ _ _ c.loop-name.invariant
-    (listed_more (g.L.Listing.takes c.args.listing.now) (g.L.Listing.shows c.args.listing.now) g.row.V-Value.order c.loop-name.name (g.S.Shelf.items s) (g.met.S.Shelf.ascending s c.requires))
+    (listed_more (g.L.Listing.takes c.args.listing.now) (g.L.Listing.shows c.args.listing.now) g.V.Value.order c.loop-name.name (g.S.Shelf.items s) (g.met.S.Shelf.ascending s c.requires))
     c.taken_into-after.ensures.out c.taken_into-after.ensures.place
 
 pub returns : goal.returns

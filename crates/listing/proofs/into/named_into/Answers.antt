@@ -26,5 +26,5 @@ returns g c =
     let xs = g.S.Shelf.items c.args.shelf.now in
     let shows = g.L.Listing.shows c.args.listing.now in
     let e = shown-end g.met.V.Value.total shows c.args.name c.loop-item.above xs c.in_default.ensures in
-    let n = ap (map shows) (wanted-named g.row.V-Value.order c.args.name xs) in
+    let n = ap (map shows) (wanted-named g.V.Value.order c.args.name xs) in
     record { out = filled-all c.loop-item.invariant e ∙ ap (fill c.args.out.now c.args.place) n; place = counted-all c.loop-item.invariant e ∙ ap (places_after c.args.place) n }

@@ -9,4 +9,4 @@ abbrev pub invariant-loop-name : goal.invariant-loop-name
 invariant-loop-name g l =
     let xs = g.S.Shelf.items l.left in
     let ys = g.T.Shelf.items l.other in
-    all_held (item_order g.row.V-Value.order) (kept (from_name l.name) xs) ys ≡ all_held (item_order g.row.V-Value.order) xs ys
+    all_held (item_order g.V.Value.order) (kept (from_name l.name) xs) ys ≡ all_held (item_order g.V.Value.order) xs ys

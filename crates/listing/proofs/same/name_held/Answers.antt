@@ -4,7 +4,7 @@ use Rattle.listing.proofs.HeldWalks.{item-missing, item-there, items-done, items
 use Rattle.listing.proofs.same.name_held.Goals as goal
 
 pub loop-item-init : goal.loop-item-init
-loop-item-init g c = items-start g.row.V-Value.order (g.S.Shelf.items c.args.left.now) (g.T.Shelf.items c.args.other.now) c.args.name
+loop-item-init g c = items-start g.V.Value.order (g.S.Shelf.items c.args.left.now) (g.T.Shelf.items c.args.other.now) c.args.name
 
 pub returns-then-not-holds : goal.returns-then-not-holds
 returns-then-not-holds g c =

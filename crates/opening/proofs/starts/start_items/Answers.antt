@@ -9,7 +9,7 @@ use Rattle.opening.proofs.starts.start_items.Goals as goal
 
 pub start_one-requires : goal.start_one-requires
 start_one-requires g c =
-    let K = values_by g.row.Of-Value.order g.row.Of-Value.blank g.row.Of-Value.reads in
+    let K = values_by g.S.Of.Value.order g.S.Of.Value.blank g.S.Of.Value.reads in
     let ds = c.args.states.now in
     let d = get_or ds c.loop-i.i unnamed in
     let r = inits-room K ds c.loop-i.i d c.loop-i-test.true refl (g.S.Shelf.limit c.loop-i.shelf) (omega (arith, c.requires.room, c.loop-i.invariant.1)) in
@@ -18,7 +18,7 @@ start_one-requires g c =
 
 pub loop-i-preserved : goal.loop-i-preserved
 loop-i-preserved g c =
-    let K = values_by g.row.Of-Value.order g.row.Of-Value.blank g.row.Of-Value.reads in
+    let K = values_by g.S.Of.Value.order g.S.Of.Value.blank g.S.Of.Value.reads in
     let ds = c.args.states.now in
     let d = get_or ds c.loop-i.i unnamed in
     let s = c.start_one.ensures in
@@ -26,6 +26,6 @@ loop-i-preserved g c =
 
 pub returns : goal.returns
 returns g c =
-    let K = values_by g.row.Of-Value.order g.row.Of-Value.blank g.row.Of-Value.reads in
+    let K = values_by g.S.Of.Value.order g.S.Of.Value.blank g.S.Of.Value.reads in
     let ds = c.args.states.now in
     record { right = c.loop-i.invariant.0; limit = c.loop-i.invariant.1; items = c.loop-i.invariant.2 ∙ ap (inits_from K 0) (take_all c.loop-i.i ds c.loop-i-test.false) }

@@ -7,4 +7,4 @@ use Rattle.opening.proofs.starts.start_items.Given as goal
 abbrev pub invariant-loop-i : goal.invariant-loop-i
 invariant-loop-i g l =
     g.S.Shelf.right l.shelf × (g.S.Shelf.limit l.shelf ≡ g.S.Shelf.limit l.initial.shelf)
-    × (g.S.Shelf.items l.shelf ≡ inits_from (values_by g.row.Of-Value.order g.row.Of-Value.blank g.row.Of-Value.reads) 0 (take l.i l.states))
+    × (g.S.Shelf.items l.shelf ≡ inits_from (values_by g.S.Of.Value.order g.S.Of.Value.blank g.S.Of.Value.reads) 0 (take l.i l.states))

@@ -5,8 +5,8 @@ use Rattle.records.proofs.decode.read_field.Goals as goal
 pub returns-then-is_absent : goal.returns-then-is_absent
 returns-then-is_absent g c = record { value = field-none g.met.V.Value.form c.args.bytes.now c.args.at c.args.map (sym c.is_absent.ensures ∙ c.if-is_absent.true); within = c.requires }
 
-pub overflow-add-result : goal.overflow-add-result
-overflow-add-result g c =
+pub overflow_add-result : goal.overflow_add-result
+overflow_add-result g c =
     let h = end-within g.met.V.Value.form c.args.bytes.now c.args.at c.args.map (λ i. (c.type_inv.bytes i).fits) c.requires _ _ (sym c.in-Ok.is ∙ c.read.ensures) in
     record { fits = omega arith }
 

@@ -6,19 +6,19 @@ use Rattle.records.proofs.FieldWrites.{event-sized, kind-large, size-end, size-m
 use Rattle.records.proofs.encode.event_size.Goals as goal
 
 pub returns-then-not-kind_fits : goal.returns-then-not-kind_fits
-returns-then-not-kind_fits g c = kind-large g.row.V-Value.written c.args.event.now (sym c.kind_fits.ensures ∙ c.if-not-kind_fits.true)
+returns-then-not-kind_fits g c = kind-large g.V.Value.written c.args.event.now (sym c.kind_fits.ensures ∙ c.if-not-kind_fits.true)
 
 pub returns-in_err-size : goal.returns-in_err-size
 returns-in_err-size g c =
-    let w = g.row.V-Value.written in
+    let w = g.V.Value.written in
     let e = c.in_err-size.ensures ∙ ap (λ f. option_map length (field_bytes w f)) c.field_at-field.ensures in
     c.from_residual.ensures ∙ event-sized w c.args.event.now (sym c.kind_fits.ensures ∙ c.if-not-kind_fits.false) _ (size-stop w (fields_of c.args.event.now) _ _ c.loop-i-test.true c.loop-i.invariant e)
 
 pub loop-i-preserved : goal.loop-i-preserved
 loop-i-preserved g c =
-    let w = g.row.V-Value.written in
+    let w = g.V.Value.written in
     let e = c.in_ok-size.ensures ∙ ap (λ f. option_map length (field_bytes w f)) c.field_at-field.ensures in
     size-more w (fields_of c.args.event.now) _ _ c.loop-i-test.true c.loop-i.invariant _ e (omega arith)
 
 pub returns : goal.returns
-returns g c = size-end g.row.V-Value.written c.args.event.now (sym c.kind_fits.ensures ∙ c.if-not-kind_fits.false) _ _ (omega arith) c.loop-i.invariant
+returns g c = size-end g.V.Value.written c.args.event.now (sym c.kind_fits.ensures ∙ c.if-not-kind_fits.false) _ _ (omega arith) c.loop-i.invariant

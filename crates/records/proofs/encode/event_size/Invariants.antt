@@ -3,4 +3,4 @@ use Rattle.records.proofs.FieldWrites.{Sizing}
 use Rattle.records.proofs.encode.event_size.Given as goal
 
 abbrev pub invariant-loop-i : goal.invariant-loop-i
-invariant-loop-i g l = Sizing g.row.V-Value.written (fields_of l.event) l.i l.n
+invariant-loop-i g l = Sizing g.V.Value.written (fields_of l.event) l.i l.n

@@ -8,4 +8,4 @@ use Rattle.step.proofs.changes.ask_all.Given as goal
 abbrev pub invariant-loop-change : goal.invariant-loop-change
 invariant-loop-change g l =
     g.S.Shelf.right l.shelf × (g.S.Shelf.limit l.shelf ≡ g.S.Shelf.limit l.initial.shelf)
-    × (with_all (item_order g.row.V-Value.order) (g.S.Shelf.items l.shelf) (moved Asked (drop l.change-index l.moves)) ≡ with_all (item_order g.row.V-Value.order) (g.S.Shelf.items l.initial.shelf) (moved Asked l.moves))
+    × (with_all (item_order g.V.Value.order) (g.S.Shelf.items l.shelf) (moved Asked (drop l.change-index l.moves)) ≡ with_all (item_order g.V.Value.order) (g.S.Shelf.items l.initial.shelf) (moved Asked l.moves))

@@ -5,7 +5,7 @@ use Rattle.step.proofs.counts.count_added.Goals as goal
 
 pub returns : goal.returns
 returns g c =
-    let K = (values_by g.row.V-Value.order g.row.V-Value.blank g.row.V-Value.reads) in
+    let K = (values_by g.V.Value.order g.V.Value.blank g.V.Value.reads) in
     let F = g.S.Shelf.items c.args.shelf.now in
     let u = g.met.S.Shelf.ascending c.args.shelf.now c.requires in
     record {

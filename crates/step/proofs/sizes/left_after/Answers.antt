@@ -2,9 +2,9 @@ use Rattle.rules.specs.Kinds.{values_by}
 use Rattle.step.proofs.SetSizes.{ascends-left, left-fewer, left-same, left-some, left_by}
 use Rattle.step.proofs.sizes.left_after.Goals as goal
 
-pub overflow-sub-result : goal.overflow-sub-result
-overflow-sub-result g c =
-    let K = (values_by g.row.V-Value.order g.row.V-Value.blank g.row.V-Value.reads) in
+pub overflow_sub-result : goal.overflow_sub-result
+overflow_sub-result g c =
+    let K = (values_by g.V.Value.order g.V.Value.blank g.V.Value.reads) in
     let t = g.met.V.Value.total in
     let F = g.S.Shelf.items c.args.shelf.now in
     let u = g.met.S.Shelf.ascending c.args.shelf.now c.requires.right in
@@ -12,7 +12,7 @@ overflow-sub-result g c =
 
 pub returns-then-leaves : goal.returns-then-leaves
 returns-then-leaves g c =
-    let K = (values_by g.row.V-Value.order g.row.V-Value.blank g.row.V-Value.reads) in
+    let K = (values_by g.V.Value.order g.V.Value.blank g.V.Value.reads) in
     let t = g.met.V.Value.total in
     let F = g.S.Shelf.items c.args.shelf.now in
     let u = g.met.S.Shelf.ascending c.args.shelf.now c.requires.right in
@@ -20,7 +20,7 @@ returns-then-leaves g c =
 
 pub returns-else-leaves : goal.returns-else-leaves
 returns-else-leaves g c =
-    let K = (values_by g.row.V-Value.order g.row.V-Value.blank g.row.V-Value.reads) in
+    let K = (values_by g.V.Value.order g.V.Value.blank g.V.Value.reads) in
     let t = g.met.V.Value.total in
     let F = g.S.Shelf.items c.args.shelf.now in
     let u = g.met.S.Shelf.ascending c.args.shelf.now c.requires.right in

@@ -13,13 +13,13 @@ use Rattle.step.proofs.walk.all_into.Goals as goal
 pub loop-name-init : goal.loop-name-init
 loop-name-init g c =
     let F = g.S.Shelf.items c.args.shelf.now in
-    let K = values_by g.row.V-Value.order g.row.V-Value.blank g.row.V-Value.reads in
+    let K = values_by g.V.Value.order g.V.Value.blank g.V.Value.reads in
     let many = g.E.Effect.of_entry c.args.effect.now c.args.at.now in
     let one = g.E.Effect.of_item c.args.effect.now c.args.at.now in
-    filling-start _ _ _ _ (joined-start g.row.V-Value.order (item_gives many K c.args.at.now F one) F)
+    filling-start _ _ _ _ (joined-start g.V.Value.order (item_gives many K c.args.at.now F one) F)
 
-pub overflow-cast-name : goal.overflow-cast-name
-overflow-cast-name g c =
+pub overflow_cast-name : goal.overflow_cast-name
+overflow_cast-name g c =
     let s = c.args.at.now in
     let h = few-states (sheet_in s).states (sheet_in s).rows (sheet_in s).kinds (length (sheet_in s).constants) s.sound in
     record { fits = omega (arith, h, c.loop-name-test.true) }
@@ -27,15 +27,15 @@ overflow-cast-name g c =
 pub loop-name-preserved : goal.loop-name-preserved
 loop-name-preserved g c =
     let F = g.S.Shelf.items c.args.shelf.now in
-    let K = values_by g.row.V-Value.order g.row.V-Value.blank g.row.V-Value.reads in
+    let K = values_by g.V.Value.order g.V.Value.blank g.V.Value.reads in
     let many = g.E.Effect.of_entry c.args.effect.now c.args.at.now in
     let one = g.E.Effect.of_item c.args.effect.now c.args.at.now in
-    filling-more _ _ _ _ c.loop-name.invariant (joined-names g.row.V-Value.order (item_gives many K c.args.at.now F one) F c.loop-name.name (g.met.S.Shelf.ascending c.args.shelf.now c.requires)) c.name_into-after.ensures.out c.name_into-after.ensures.place
+    filling-more _ _ _ _ c.loop-name.invariant (joined-names g.V.Value.order (item_gives many K c.args.at.now F one) F c.loop-name.name (g.met.S.Shelf.ascending c.args.shelf.now c.requires)) c.name_into-after.ensures.out c.name_into-after.ensures.place
 
 pub returns : goal.returns
 returns g c =
     let F = g.S.Shelf.items c.args.shelf.now in
-    let K = values_by g.row.V-Value.order g.row.V-Value.blank g.row.V-Value.reads in
+    let K = values_by g.V.Value.order g.V.Value.blank g.V.Value.reads in
     let many = g.E.Effect.of_entry c.args.effect.now c.args.at.now in
     let one = g.E.Effect.of_item c.args.effect.now c.args.at.now in
     let e = joined-none (item_gives many K c.args.at.now F one) (from_name c.loop-name.name)

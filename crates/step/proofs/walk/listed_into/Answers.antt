@@ -18,13 +18,13 @@ pub loop-item-preserved : goal.loop-item-preserved
 loop-item-preserved g c =
     let s = c.args.shelf.now in
     let F = g.S.Shelf.items s in
-    let f = item_gives (g.E.Effect.of_entry c.args.effect.now c.args.at.now) (values_by g.row.V-Value.order g.row.V-Value.blank g.row.V-Value.reads) c.args.at.now F (g.E.Effect.of_item c.args.effect.now c.args.at.now) in
-    filling-more (f c.in-Some.item) _ _ _ c.loop-item.invariant (listed_more g.row.V-Value.order f F g.met.V.Value.total c.args.name c.args.first c.loop-item.above (g.met.S.Shelf.ascending s c.requires) c.in-Some.item c.in-Some.ensures) c.item_into-after.ensures.out c.item_into-after.ensures.place
+    let f = item_gives (g.E.Effect.of_entry c.args.effect.now c.args.at.now) (values_by g.V.Value.order g.V.Value.blank g.V.Value.reads) c.args.at.now F (g.E.Effect.of_item c.args.effect.now c.args.at.now) in
+    filling-more (f c.in-Some.item) _ _ _ c.loop-item.invariant (listed_more g.V.Value.order f F g.met.V.Value.total c.args.name c.args.first c.loop-item.above (g.met.S.Shelf.ascending s c.requires) c.in-Some.item c.in-Some.ensures) c.item_into-after.ensures.out c.item_into-after.ensures.place
 
 pub returns : goal.returns
 returns g c =
     let s = c.args.shelf.now in
     let F = g.S.Shelf.items s in
-    let f = item_gives (g.E.Effect.of_entry c.args.effect.now c.args.at.now) (values_by g.row.V-Value.order g.row.V-Value.blank g.row.V-Value.reads) c.args.at.now F (g.E.Effect.of_item c.args.effect.now c.args.at.now) in
-    let e = listed-end g.row.V-Value.order f F c.args.name c.args.first c.loop-item.above c.in_default.ensures in
+    let f = item_gives (g.E.Effect.of_entry c.args.effect.now c.args.at.now) (values_by g.V.Value.order g.V.Value.blank g.V.Value.reads) c.args.at.now F (g.E.Effect.of_item c.args.effect.now c.args.at.now) in
+    let e = listed-end g.V.Value.order f F c.args.name c.args.first c.loop-item.above c.in_default.ensures in
     record { out = filled-all c.loop-item.invariant e; place = counted-all c.loop-item.invariant e }

@@ -18,7 +18,7 @@ count_moves-requires g c =
 pub returns : goal.returns
 unfolding took findings_at
 returns g c =
-    let K = values_by g.row.Of-Value.order g.row.Of-Value.blank g.row.Of-Value.reads in
+    let K = values_by g.S.Of.Value.order g.S.Of.Value.blank g.S.Of.Value.reads in
     let b = c.args.self.now in
     let F = g.S.Shelf.items b.shelf in
     let after = c.count_moves.ensures in

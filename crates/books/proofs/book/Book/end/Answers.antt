@@ -13,20 +13,20 @@ use Rattle.books.proofs.book.Book.end.Goals as goal
 
 pub returns-in-Some : goal.returns-in-Some
 returns-in-Some g c =
-    let K = values_by g.row.Of-Value.order g.row.Of-Value.blank g.row.Of-Value.reads in
+    let K = values_by g.S.Of.Value.order g.S.Of.Value.blank g.S.Of.Value.reads in
     let s = view_of c.args.sheet.now in
     let b = book_view g.S.Shelf.items g.S.Shelf.limit c.args.self.now in
-    let small : length c.args.findings.now < last_place = omega (arith, c.well-formed) in
+    let small : length c.args.findings.now < last_place = omega (arith, c.well_formed) in
     let counted = c.count_hot-count.ensures ∙ ap (λ ds. capped (length (hot_by ds b.accepted b.items))) c.states.ensures.value in
     record { right = c.requires; served = end_refused K s b c.args.findings.now c.count_hot-count.result small counted c.in-Some.refusal c.in-Some.ensures.answer }
 
 pub returns-in-None : goal.returns-in-None
 unfolding ended_book
 returns-in-None g c =
-    let K = values_by g.row.Of-Value.order g.row.Of-Value.blank g.row.Of-Value.reads in
+    let K = values_by g.S.Of.Value.order g.S.Of.Value.blank g.S.Of.Value.reads in
     let s = view_of c.args.sheet.now in
     let b = book_view g.S.Shelf.items g.S.Shelf.limit c.args.self.now in
-    let small : length c.args.findings.now < last_place = omega (arith, c.well-formed) in
+    let small : length c.args.findings.now < last_place = omega (arith, c.well_formed) in
     let counted = c.count_hot-count.ensures ∙ ap (λ ds. capped (length (hot_by ds b.accepted b.items))) c.states.ensures.value in
     let may = c.in-None.ensures.may refl in
     let ended = c.advance.ensures.phase ∙ ap (λ p. phase_after p call.End) may.«open» in

@@ -21,7 +21,7 @@ start-requires g c =
 
 pub returns-in-Some : goal.returns-in-Some
 returns-in-Some g c =
-    let K = values_by g.row.Of-Value.order g.row.Of-Value.blank g.row.Of-Value.reads in
+    let K = values_by g.S.Of.Value.order g.S.Of.Value.blank g.S.Of.Value.reads in
     let s = view_of c.args.sheet.now in
     let b = book_view g.S.Shelf.items g.S.Shelf.limit c.args.self.now in
     let inits = c.count_inits.ensures ∙ ap (how_many is_init) c.states-states.ensures.value in
@@ -32,7 +32,7 @@ returns-in-Some g c =
 
 pub returns-in-None : goal.returns-in-None
 returns-in-None g c =
-    let K = values_by g.row.Of-Value.order g.row.Of-Value.blank g.row.Of-Value.reads in
+    let K = values_by g.S.Of.Value.order g.S.Of.Value.blank g.S.Of.Value.reads in
     let s = view_of c.args.sheet.now in
     let b = book_view g.S.Shelf.items g.S.Shelf.limit c.args.self.now in
     let b' = book_view g.S.Shelf.items g.S.Shelf.limit c.start.new.self in

@@ -10,9 +10,9 @@ use Rattle.books.proofs.book.Book.put_all.Goals as goal
 
 pub loop-goes_on-preserved : goal.loop-goes_on-preserved
 loop-goes_on-preserved g c =
-    let K = values_by g.row.Of-Value.order g.row.Of-Value.blank g.row.Of-Value.reads in
+    let K = values_by g.S.Of.Value.order g.S.Of.Value.blank g.S.Of.Value.reads in
     let s = view_of c.args.sheet.now in
-    let reads = g.row.Of-Value.reads in
+    let reads = g.S.Of.Value.reads in
     let b = book_view g.S.Shelf.items g.S.Shelf.limit c.loop-goes_on.self in
     let b' = book_view g.S.Shelf.items g.S.Shelf.limit c.put_next-goes_on.new.self in
     let inv = c.loop-goes_on.invariant in

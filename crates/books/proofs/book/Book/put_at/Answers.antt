@@ -11,14 +11,14 @@ take-requires g c =
 
 pub returns-in-Some : goal.returns-in-Some
 returns-in-Some g c =
-    let K = values_by g.row.Of-Value.order g.row.Of-Value.blank g.row.Of-Value.reads in
+    let K = values_by g.S.Of.Value.order g.S.Of.Value.blank g.S.Of.Value.reads in
     let s = view_of c.args.sheet.now in
     let b = book_view g.S.Shelf.items g.S.Shelf.limit c.args.self.now in
     record { right = c.requires; came = put_refused K s c.args.place b c.args.event.now c.args.moves.now c.args.findings.now c.in-Some.refusal c.in-Some.ensures }
 
 pub returns-in-None : goal.returns-in-None
 returns-in-None g c =
-    let K = values_by g.row.Of-Value.order g.row.Of-Value.blank g.row.Of-Value.reads in
+    let K = values_by g.S.Of.Value.order g.S.Of.Value.blank g.S.Of.Value.reads in
     let s = view_of c.args.sheet.now in
     let b = book_view g.S.Shelf.items g.S.Shelf.limit c.args.self.now in
     record {

@@ -11,7 +11,7 @@ use Rattle.books.proofs.book.Book.put_rest.Goals as goal
 
 pub returns : goal.returns
 returns g c =
-    let K = values_by g.row.Of-Value.order g.row.Of-Value.blank g.row.Of-Value.reads in
+    let K = values_by g.S.Of.Value.order g.S.Of.Value.blank g.S.Of.Value.reads in
     let s = view_of c.args.sheet.now in
     let e = c.args.event.now in
     let pad = c.args.moves.now in

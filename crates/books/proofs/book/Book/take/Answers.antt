@@ -10,15 +10,15 @@ use Rattle.books.proofs.book.Book.take.Goals as goal
 pub settle-requires : goal.settle-requires
 unfolding set_after
 settle-requires g c =
-    let K = values_by g.row.Of-Value.order g.row.Of-Value.blank g.row.Of-Value.reads in
+    let K = values_by g.S.Of.Value.order g.S.Of.Value.blank g.S.Of.Value.reads in
     let s = sheet_in c.args.at.now in
     let e = event_in c.args.at.now in
     let b = book_view g.S.Shelf.items g.S.Shelf.limit c.args.self.now in
     let z = c.survey-sizes.result in
     let pad' = c.survey-sizes.new.moves in
     let v = c.survey-sizes.ensures in
-    let short : length c.args.moves.now < last_place = omega (arith, c.well-formed) in
-    let small : length c.args.findings.now < last_place = omega (arith, c.well-formed) in
+    let short : length c.args.moves.now < last_place = omega (arith, c.well_formed) in
+    let small : length c.args.findings.now < last_place = omega (arith, c.well_formed) in
     record {
       right = c.requires.right;
       more = c.requires.more;
@@ -30,7 +30,7 @@ settle-requires g c =
 
 pub returns : goal.returns
 returns g c =
-    let K = values_by g.row.Of-Value.order g.row.Of-Value.blank g.row.Of-Value.reads in
+    let K = values_by g.S.Of.Value.order g.S.Of.Value.blank g.S.Of.Value.reads in
     let s = sheet_in c.args.at.now in
     let e = event_in c.args.at.now in
     let view = book_view g.S.Shelf.items g.S.Shelf.limit in
@@ -39,8 +39,8 @@ returns g c =
     let v = c.survey-sizes.ensures in
     let l = c.late_refusal-refusal.ensures in
     let t = c.settle.ensures in
-    let short : length c.args.moves.now < last_place = omega (arith, c.well-formed) in
-    let small : length c.args.findings.now < last_place = omega (arith, c.well-formed) in
+    let short : length c.args.moves.now < last_place = omega (arith, c.well_formed) in
+    let small : length c.args.findings.now < last_place = omega (arith, c.well_formed) in
     record {
       right = t.right;
       came = came-settled K s c.args.place (view c.args.self.now) e c.args.moves.now c.args.findings.now pad' z.moves z.findings short small v.out v.moved v.found

@@ -11,6 +11,6 @@ first_wanted-requires g c =
 pub returns : goal.returns
 returns g c =
     first_found g.met.V.Value.total g.met.V.Bucketed.below c.requires c.deref.result.now c.deref-2.result.now c.args.self.now.chains.items (c.args.self.now.limit + c.chain_of.result)
-    (wanted g.row.V-Value.order c.args.name (Some c.args.value) c.args.above) c.first_wanted.result _
+    (wanted g.V.Value.order c.args.name (Some c.args.value) c.args.above) c.first_wanted.result _
     c.deref.ensures.value c.deref-2.ensures.value c.first_wanted.ensures
     (chain-begins g.met.V.Value.total g.met.V.Bucketed.below c.requires c.args.name c.args.value c.args.above c.chain_of.ensures.name c.chain_of.result c.chain_of.ensures.value)

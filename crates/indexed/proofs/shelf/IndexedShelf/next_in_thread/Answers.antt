@@ -10,5 +10,5 @@ first_wanted-requires g c =
 pub returns : goal.returns
 returns g c =
     first_found g.met.V.Value.total g.met.V.Bucketed.below c.requires c.deref.result.now c.deref-2.result.now c.args.self.now.threads.items c.thread_start-start.result
-    (wanted g.row.V-Value.order c.args.name None c.args.above) c.first_wanted.result _
+    (wanted g.V.Value.order c.args.name None c.args.above) c.first_wanted.result _
     c.deref.ensures.value c.deref-2.ensures.value c.first_wanted.ensures c.thread_start-start.ensures.first

@@ -4,7 +4,7 @@ use Rattle.indexed.proofs.shelf.IndexedShelf.over.Goals as goal
 
 pub returns : goal.returns
 returns g c =
-    let r = made-empty g.met.V.Value.total g.V.Bucketed.bucket_of g.row.V-Value.blank c.args.cells.items
+    let r = made-empty g.met.V.Value.total g.V.Bucketed.bucket_of g.V.Value.blank c.args.cells.items
     c.in_ok-threads.threads.items c.in_ok-chains.chains.items c.in_ok-free.free.items c.args.limit
     (omega (arith, c.args.cells.ok.0)) (omega arith)
     (c.in_ok-threads.ensures.items-if-clones-equal (λ y e. e)) (c.in_ok-chains.ensures.items-if-clones-equal (λ y e. e)) c.in_ok-free.ensures.0 in

@@ -8,7 +8,7 @@ use Rattle.sorted.proofs.shelf.SortedShelf.put_in.Goals as goal
 
 pub insert-requires : goal.insert-requires
 insert-requires g c =
-    let l = leading-within (place_of g.row.V-Value.order (At c.args.item)) c.args.self.now.cells.items in
+    let l = leading-within (place_of g.V.Value.order (At c.args.item)) c.args.self.now.cells.items in
     omega (arith, c.args.self.now.cells.ok.0, c.requires.place)
 
 pub unreachable-requires : goal.unreachable-requires
@@ -18,7 +18,7 @@ unreachable-requires g c =
 
 pub returns : goal.returns
 returns g c =
-    let w : c.args.item.name < 256 = omega (arith, c.well-formed) in
-    let p = put_in g.met.V.Value.total c.args.self.now.cells.items c.requires.right.rising c.args.item c.args.place c.requires.place
-    c.insert.new.self.items w c.requires.right.bytes (put-since _ _ _ c.requires.answer).0 c.in-Ok.ensures.items in
-    record { right = record { rising = p.0; bytes = p.1 }; items = p.2; limit = refl }
+    let w : c.args.item.name < 256 = omega (arith, c.well_formed) in
+    let p = put_in g.met.V.Value.total c.args.self.now.cells.items c.requires.right c.args.item c.args.place c.requires.place
+    c.insert.new.self.items w c.args.self.now.names (put-since _ _ _ c.requires.answer).0 c.in-Ok.ensures.items in
+    record { right = p.0; items = p.2; limit = refl }

@@ -7,15 +7,15 @@ use Rattle.sorted.proofs.shelf.SortedShelf.seek.Goals as goal
 
 pub loop-low-init : goal.loop-low-init
 loop-low-init g c =
-    let l = leading-within (place_of g.row.V-Value.order c.args.mark.now) c.args.self.now.cells.items in
+    let l = leading-within (place_of g.V.Value.order c.args.mark.now) c.args.self.now.cells.items in
     (omega arith, omega (arith, c.args.self.now.cells.ok.0), omega arith)
 
 turn : (g : given.Over) (c : goal.After-narrowed g)
-    → Narrowed (place_of g.row.V-Value.order c.args.mark.now) c.args.self.now.cells.items c.loop-low.low c.loop-low.high c.narrowed.result
+    → Narrowed (place_of g.V.Value.order c.args.mark.now) c.args.self.now.cells.items c.loop-low.low c.loop-low.high c.narrowed.result
 turn g c =
     let i = c.loop-low.invariant in
-    narrows g.met.V.Value.total c.args.self.now.cells.items c.requires.rising c.args.mark.now
-    c.loop-low.low _ c.loop-low.high c.index.result.now c.place.result (c.place.ensures ∙ ap (place_of g.row.V-Value.order c.args.mark.now) c.index.ensures)
+    narrows g.met.V.Value.total c.args.self.now.cells.items c.requires c.args.mark.now
+    c.loop-low.low _ c.loop-low.high c.index.result.now c.place.result (c.place.ensures ∙ ap (place_of g.V.Value.order c.args.mark.now) c.index.ensures)
     i.0 i.1 (omega (arith, i.2, c.args.self.now.cells.ok.0)) (omega arith) (omega arith) c.narrowed.result c.narrowed.ensures
 
 pub loop-low-smaller : goal.loop-low-smaller
