@@ -110,9 +110,9 @@ impl<V: Bucketed> Shelf for IndexedShelf<V> {
 
     ghost right = { λ s. IndexedRight V.Value.order V.Bucketed.bucket_of V.Value.blank s };
 
-    ghost ascending = { first_of (Prim.search rules, Prim.grind (arith, Self.row.coded.inj)) };
+    ghost ascending = { λ s r. r.rising };
 
-    ghost bounded = { first_of (Prim.search rules, Prim.grind (arith, Self.row.coded.inj)) };
+    ghost bounded = { λ s r. r.most };
 
     ghost bytes = { λ s r. byte-names V.Value.order V.Bucketed.bucket_of V.Value.blank s r };
 

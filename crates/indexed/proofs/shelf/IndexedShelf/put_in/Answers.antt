@@ -13,8 +13,8 @@ unreachable-requires g c =
     let e = counted g.met.V.Value.total g.met.V.Bucketed.below c.requires.right (length c.args.self.now.free.items) refl in
     omega (arith, c.in-None.ensures.cases.0, c.args.self.now.free.ok.0)
 
-pub index-mut-requires : goal.index-mut-requires
-index-mut-requires g c =
+pub index_mut-requires : goal.index_mut-requires
+index_mut-requires g c =
     let h = i-small g.met.V.Value.total g.V.Bucketed.bucket_of g.V.Value.blank c.requires.right c.args.item c.in-Some.cell c.pop.new.self.items c.in-Some.ensures.items in
     omega (arith, c.requires.right.long, c.args.self.now.cells.ok.0)
 
