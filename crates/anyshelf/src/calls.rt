@@ -24,7 +24,7 @@ impl<V: Bucketed> Shelf for AnyShelf<V> {
     ghost bounded = { Prim.search rules };
 
     ghost bytes = { elim [
-      | Sorted s ↦ λ r. r.bytes
+      | Sorted s ↦ λ r. s.names
       | Indexed s ↦ λ r. byte-names V.Value.order V.Bucketed.bucket_of V.Value.blank s r
     ] };
 
