@@ -31,8 +31,8 @@ module _ {V : Type 0} (K : ValueKind V) (s : SheetEvent V) (F : List (Item V)) w
   unwatched-findings h = ap (λ b. cond b (flat_map (item_faults K (sheet_in s) F (event_in s)) F) []) h
 
   -- the front of a buffer that has the event's moves makes the set after the event
-  pub set_after : (buffer : List (Move V)) (n : ℕ) → take n buffer ≡ moves_at K (sheet_in s) F (event_in s) → new_set K (take (n - 0) buffer) F ≡ set_after K (sheet_in s) F (event_in s)
+  pub set_after_lem : (buffer : List (Move V)) (n : ℕ) → take n buffer ≡ moves_at K (sheet_in s) F (event_in s) → new_set K (take (n - 0) buffer) F ≡ set_after K (sheet_in s) F (event_in s)
   unfolding set_after
-  set_after buffer n e =
+  set_after_lem buffer n e =
       let z : n - 0 ≡ n = omega arith in
       ap (λ k. new_set K (take k buffer) F) z ∙ ap (λ l. new_set K l F) e

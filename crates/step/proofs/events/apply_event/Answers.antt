@@ -1,14 +1,14 @@
 use Rattle.std.proofs.Common.{length, ap, ◌∙◌, arith}
 use Rattle.rules.specs.Kinds.{values_by}
-use Rattle.step.proofs.Whole.{set_after}
+use Rattle.step.proofs.Whole.{set_after_lem}
 use Rattle.step.proofs.events.apply_event.Goals as goal
 
 pub apply-requires : goal.apply-requires
 apply-requires g c =
-    let e = set_after (values_by g.V.Value.order g.V.Value.blank g.V.Value.reads) c.args.at.now (g.S.Shelf.items c.args.shelf.now) c.args.buffer.now c.args.count c.requires.moves in
+    let e = set_after_lem (values_by g.V.Value.order g.V.Value.blank g.V.Value.reads) c.args.at.now (g.S.Shelf.items c.args.shelf.now) c.args.buffer.now c.args.count c.requires.moves in
     record { right = c.requires.right; room = omega (arith, ap length e, c.requires.room) }
 
 pub returns : goal.returns
 returns g c =
-    let e = set_after (values_by g.V.Value.order g.V.Value.blank g.V.Value.reads) c.args.at.now (g.S.Shelf.items c.args.shelf.now) c.args.buffer.now c.args.count c.requires.moves in
+    let e = set_after_lem (values_by g.V.Value.order g.V.Value.blank g.V.Value.reads) c.args.at.now (g.S.Shelf.items c.args.shelf.now) c.args.buffer.now c.args.count c.requires.moves in
     record { right = c.apply.ensures.right; limit = c.apply.ensures.limit; items = c.apply.ensures.items ∙ e }
