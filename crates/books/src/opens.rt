@@ -26,7 +26,7 @@ impl<S: Shelf> Book<S> {
         requires few { length states.now ≤ 32 }
         requires room { how_many is_init states.now ≤ S.Shelf.limit self.old.shelf }
         ensures right { BookRight S.Shelf.right self.new }
-        ensures opened { Opened (values_by Of-as-Value.order Of-as-Value.blank Of-as-Value.reads) states.now (book_view S.Shelf.items S.Shelf.limit self.old) (book_view S.Shelf.items S.Shelf.limit self.new) }
+        ensures opened { Opened (values_by S.Of.Value.order S.Of.Value.blank S.Of.Value.reads) states.now (book_view S.Shelf.items S.Shelf.limit self.old) (book_view S.Shelf.items S.Shelf.limit self.new) }
     {
         start_items(&mut self.shelf, states);
         count_starts(&mut self.tallies, states);

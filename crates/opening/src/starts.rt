@@ -40,10 +40,10 @@ fn plain_item<V: Value>(name: u8) -> Item<V>
 // Puts the item of a state in, if the state is init.
 fn start_one<S: Shelf>(shelf: &mut S, name: u8, state: &State)
     requires right { S.Shelf.right shelf.old }
-    requires room { length (started_with (values_by Of-as-Value.order Of-as-Value.blank Of-as-Value.reads) name state.now (S.Shelf.items shelf.old)) ≤ S.Shelf.limit shelf.old }
+    requires room { length (started_with (values_by S.Of.Value.order S.Of.Value.blank S.Of.Value.reads) name state.now (S.Shelf.items shelf.old)) ≤ S.Shelf.limit shelf.old }
     ensures right { S.Shelf.right shelf.new }
     ensures limit { S.Shelf.limit shelf.new ≡ S.Shelf.limit shelf.old }
-    ensures items { S.Shelf.items shelf.new ≡ started_with (values_by Of-as-Value.order Of-as-Value.blank Of-as-Value.reads) name state.now (S.Shelf.items shelf.old) }
+    ensures items { S.Shelf.items shelf.new ≡ started_with (values_by S.Of.Value.order S.Of.Value.blank S.Of.Value.reads) name state.now (S.Shelf.items shelf.old) }
 {
     if state.init {
         shelf.add(plain_item(name));
@@ -58,7 +58,7 @@ pub fn start_items<S: Shelf>(shelf: &mut S, states: &[State])
     requires room { how_many is_init states.now ≤ S.Shelf.limit shelf.old }
     ensures right { S.Shelf.right shelf.new }
     ensures limit { S.Shelf.limit shelf.new ≡ S.Shelf.limit shelf.old }
-    ensures items { S.Shelf.items shelf.new ≡ inits_from (values_by Of-as-Value.order Of-as-Value.blank Of-as-Value.reads) 0 states.now }
+    ensures items { S.Shelf.items shelf.new ≡ inits_from (values_by S.Of.Value.order S.Of.Value.blank S.Of.Value.reads) 0 states.now }
 {
     for (i, state) in states.iter().enumerate() {
         start_one(shelf, i as u8, state);
