@@ -1,5 +1,5 @@
 -- A line by its first word and those behind it.
-use Rattle.std.proofs.Common.{◌≡◌, ℕ, true, false, List, [], ◌∷◌, Result, sym, ap, ◌∙◌}
+use Rattle.std.proofs.Common.{◌≡◌, ℕ, true, List, [], ◌∷◌, Result, sym, ap, ◌∙◌}
 use Rattle.std.proofs.lemmas.Bool.{false≢true}
 use Rattle.scripts.specs.declared.misfit.Misfit.{Misfit}
 use Rattle.wordcounts.specs.Counts.{no_words}

@@ -1,14 +1,12 @@
 -- The two effects give an item's moves and its findings.
-use Rattle.std.proofs.Common.{◌≡◌, ℕ, Bool, List, [], ◌∷◌, ◌++◌, map, sym, refl, ap, ◌∙◌}
+use Rattle.std.proofs.Common.{◌≡◌, ℕ, List, [], ◌∷◌, ◌++◌, map, sym, refl, ap, ◌∙◌}
 use Rattle.std.proofs.lemmas.List.{map-append}
 use Rattle.std.specs.List.{flat_map}
 use Rattle.items.specs.declared.item.Item.{Item}
 use Rattle.sheets.specs.Tables.{SheetModel}
 use Rattle.sheets.specs.Words.{present}
-use Rattle.sheets.specs.declared.tables.Entry.{Entry}
-use Rattle.sheets.specs.declared.tables.Row.{Row}
 use Rattle.rules.specs.Kinds.{ValueKind}
-use Rattle.rules.specs.Step.{Found, Numbered, entry_faults, entry_moves, fired_rows, item_faults, item_moves, lapse_faults, leaving, numbered_as, row_faults}
+use Rattle.rules.specs.Step.{Numbered, entry_faults, entry_moves, fired_rows, item_faults, item_moves, lapse_faults, leaving, numbered_as, row_faults}
 use Rattle.rules.specs.declared.finding.Finding.{Finding}
 use Rattle.firing.specs.At.{event_in, sheet_in}
 use Rattle.firing.specs.Effects.{fired_as, is_filled, item_gives, row_gives}

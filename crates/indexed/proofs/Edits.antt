@@ -1,16 +1,13 @@
 -- What `add` and `remove` leave.
-use Rattle.std.proofs.Common.{◌≡◌, ℕ, ◌+◌, ◌<◌, ◌≤◌, Bool, true, false, cond, ltb, List, [], ◌∷◌, ◌++◌, map, length, set, is_some, Some, None, Option, Ordering, sym, refl, ap, ◌∙◌, subst, ⊎_elim, arith, length-append, take-append-drop}
-use Rattle.std.proofs.lemmas.Bool.{lt-ltb, le-ltb, cases_lt}
-use Rattle.std.proofs.lemmas.List.{length-map, append-nil}
+use Rattle.std.proofs.Common.{◌≡◌, ℕ, ◌+◌, ◌<◌, true, false, List, [], ◌∷◌, ◌++◌, map, length, set, Ordering, ap, ◌∙◌, subst, ⊎_elim, arith, length-append, take-append-drop}
+use Rattle.std.proofs.lemmas.Bool.{cases_lt}
+use Rattle.std.proofs.lemmas.List.{length-map}
 use Rattle.values.specs.Order.{TotalOrder}
 use Rattle.items.specs.Ascending.{leading, held, placed, without}
-use Rattle.items.specs.Items.{item_order, add_answer}
+use Rattle.items.specs.Items.{item_order}
 use Rattle.items.specs.declared.item.Item.{Item}
-use Rattle.items.specs.declared.added.Added.TheVariants.{Held, Put, Full}
 use Rattle.indexed.specs.Links.{times, front, back, linked, unlinked}
 use Rattle.indexed.specs.Index.{order_of, item_in, chain_of, name_of, Sound, probe, last_in}
-use Rattle.indexed.specs.Meaning.{indexed_items, Located}
-use Rattle.indexed.specs.declared.shelf.IndexedShelf.{IndexedShelf}
 use Rattle.indexed.specs.LinksLemmas.{times-same, times-append}
 use Rattle.indexed.proofs.Sound.{bounded, order_is, put-items, sound-add, take-items, sound-remove}
 

@@ -1,12 +1,11 @@
 -- A cell more or less in a family of linked groups.
-use Rattle.std.proofs.Common.{◌≡◌, ℕ, zero, suc, ◌+◌, ◌<◌, ◌≤◌, Bool, true, false, cond, eqb, ltb, ◌⊎◌, List, [], ◌∷◌, ◌++◌, map, length, get_or, set, sym, refl, ap, ◌∙◌, subst, inl, inr, ⊎_elim, arith}
+use Rattle.std.proofs.Common.{◌≡◌, ℕ, ◌+◌, ◌<◌, ◌≤◌, cond, eqb, List, ◌∷◌, ◌++◌, get_or, sym, ap, ◌∙◌, subst, ⊎_elim, arith}
 use Rattle.std.proofs.lemmas.Bool.{eq-eqb, ne_eqb, cases_eq, eqb-true}
-use Rattle.items.specs.Ascending.{kept}
 use Rattle.items.specs.declared.item.Item.{Item}
 use Rattle.items.proofs.Kept.{kept_append}
 use Rattle.indexed.specs.Links.{Leads, last_of, times}
 use Rattle.indexed.specs.Index.{item_in, group, Grouped}
-use Rattle.indexed.specs.LinksLemmas.{times-same, times-other, times-append, times-last, leads-same, leads-link, leads-unlink, kept_same, times-kept, kept-passes}
+use Rattle.indexed.specs.LinksLemmas.{times-other, times-append, times-last, leads-same, leads-link, leads-unlink, kept_same, times-kept, kept-passes}
 
 module _ {V : Type 0} (blank : V) (key : Item V → ℕ) where
   -- of two groups, a cell or a start of one is none of the other

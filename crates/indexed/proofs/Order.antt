@@ -1,15 +1,15 @@
 -- Cells in the order of what they hold.
-use Rattle.std.proofs.Common.{◌≡◌, ℕ, zero, suc, ◌+◌, ◌<◌, ◌≤◌, Bool, true, false, cond, eqb, ltb, ◌⊎◌, List, [], ◌∷◌, ◌++◌, map, length, get_or, take, drop, Ordering, Less, Equal, Greater, sym, refl, ap, ◌∙◌, subst, inl, inr, ⊎_elim, arith, take-append-drop}
-use Rattle.std.proofs.lemmas.Bool.{eq-eqb, ne_eqb, cases_eq, cases_lt, cases_Bool, and_parts, and_from}
+use Rattle.std.proofs.Common.{◌≡◌, ℕ, zero, suc, ◌+◌, ◌<◌, ◌≤◌, Bool, true, false, eqb, ◌⊎◌, List, [], ◌∷◌, ◌++◌, map, Ordering, Less, Equal, Greater, sym, refl, ap, ◌∙◌, inl, inr, ⊎_elim, arith, take-append-drop}
+use Rattle.std.proofs.lemmas.Bool.{eq-eqb, ne_eqb, cases_eq, cases_lt, cases_Bool, and_parts}
 use Rattle.std.proofs.lemmas.List.{append_cancel_left}
 use Rattle.values.specs.Order.{TotalOrder}
-use Rattle.items.specs.Ascending.{leading, kept, heads, ascends}
+use Rattle.items.specs.Ascending.{leading, kept, ascends}
 use Rattle.values.specs.Order.{by_number}
 use Rattle.items.specs.Items.{item_order}
 use Rattle.items.specs.declared.item.Item.{Item}
 use Rattle.items.proofs.Orders.{by_answer, item-total}
 use Rattle.std.proofs.lemmas.Bool.Decides.{nat_tests}
-use Rattle.items.proofs.Ascending.{is-less, heads-down, ascends-tail}
+use Rattle.items.proofs.Ascending.{is-less, ascends-tail}
 use Rattle.items.proofs.Kept.{kept_append}
 use Rattle.indexed.specs.Links.{times, front, back}
 use Rattle.indexed.specs.LinksLemmas.{times-same}

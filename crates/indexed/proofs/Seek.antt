@@ -1,11 +1,11 @@
 -- Where a walk along a list of cells ends, and what it meets.
-use Rattle.std.proofs.Common.{◌≡◌, ℕ, zero, suc, ◌+◌, ◌<◌, ◌≤◌, Bool, true, false, cond, ◌||◌, eqb, ltb, ◌⊎◌, List, [], ◌∷◌, ◌++◌, map, length, get_or, take, drop, Ordering, Less, Equal, Greater, sym, refl, ap, ◌∙◌, subst, inl, inr, ⊎_elim, arith, take-append-drop}
-use Rattle.std.proofs.lemmas.Bool.{eq-eqb, ne_eqb, lt-ltb, le-ltb, cases_eq, cases_lt, cases_Bool, and_parts, and_from, both_ways}
-use Rattle.std.specs.Ordering.{is_eq, is_lt}
+use Rattle.std.proofs.Common.{◌≡◌, ℕ, zero, suc, ◌<◌, ◌≤◌, Bool, true, false, ltb, List, [], ◌∷◌, ◌++◌, map, length, get_or, drop, Ordering, Less, Equal, Greater, sym, refl, ap, ◌∙◌, ⊎_elim, arith}
+use Rattle.std.proofs.lemmas.Bool.{cases_eq, cases_Bool, and_parts, and_from, both_ways}
+use Rattle.std.specs.Ordering.{is_eq}
 use Rattle.values.specs.Order.{TotalOrder}
-use Rattle.items.specs.Ascending.{leading, kept, heads, ascends, held, first_of}
+use Rattle.items.specs.Ascending.{kept, heads, ascends, held, first_of}
 use Rattle.items.proofs.Orders.{by_answer}
-use Rattle.items.proofs.Ascending.{is-less, is-equal, heads-down, ascends-tail, held-above, less-greater, greater-less, equal-equal}
+use Rattle.items.proofs.Ascending.{is-less, heads-down, ascends-tail, held-above, less-greater, greater-less, equal-equal}
 use Rattle.indexed.specs.Links.{reached, Leads, last_of, times, front, back}
 use Rattle.indexed.specs.LinksLemmas.{times-same, times-other, times-append, reached-leads}
 

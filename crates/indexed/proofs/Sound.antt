@@ -1,17 +1,16 @@
 -- An index rightly made stays so.
-use Rattle.std.proofs.Common.{◌≡◌, ℕ, zero, suc, ◌+◌, ◌*◌, ◌<◌, ◌≤◌, Bool, true, false, cond, eqb, ltb, ◌≢◌, ◌⊎◌, List, [], ◌∷◌, ◌++◌, map, length, get_or, take, drop, set, Ordering, Less, Equal, Greater, sym, refl, ap, ◌∙◌, subst, inl, inr, ⊎_elim, arith, length-append, length-set, take-append-drop}
-use Rattle.std.proofs.lemmas.Bool.{eq-eqb, ne_eqb, cases_eq, cases_lt, cases_Bool}
+use Rattle.std.proofs.Common.{◌≡◌, ℕ, zero, suc, ◌+◌, ◌<◌, ◌≤◌, true, false, eqb, ◌⊎◌, List, [], ◌∷◌, ◌++◌, map, length, get_or, drop, set, Ordering, sym, refl, ap, ◌∙◌, subst, inl, inr, ⊎_elim, arith, length-append, length-set, take-append-drop}
+use Rattle.std.proofs.lemmas.Bool.{cases_eq, cases_lt}
 use Rattle.std.proofs.lemmas.List.{get_or-set_same, get_or-set_other, take-map, drop-map, map-append, drop-drop}
-use Rattle.std.specs.List.{insert, remove}
 use Rattle.values.specs.Order.{TotalOrder}
-use Rattle.items.specs.Ascending.{leading, pick, kept, ascends, held, placed, without}
+use Rattle.items.specs.Ascending.{leading, pick, ascends, held, placed, without}
 use Rattle.items.specs.Items.{item_order}
 use Rattle.items.specs.declared.item.Item.{Item}
 use Rattle.items.proofs.Orders.{item-total}
 use Rattle.items.proofs.Next.{length-kept}
 use Rattle.items.proofs.Ascending.{placed_at, ascends-placed, without_at, ascends-without}
-use Rattle.indexed.specs.Links.{reached, Leads, last_of, times, front, back, linked, unlinked}
-use Rattle.indexed.specs.Index.{threads_from, order_of, item_in, items_of, group, Grouped, chain_of, name_of, Sound}
+use Rattle.indexed.specs.Links.{reached, last_of, times, front, back, linked, unlinked}
+use Rattle.indexed.specs.Index.{threads_from, order_of, item_in, group, Grouped, chain_of, name_of, Sound}
 use Rattle.indexed.specs.LinksLemmas.{times-same, times-other, times-append, times-last, times-kept, reached-leads, map_same}
 use Rattle.indexed.proofs.Groups.{grouped-add, grouped-remove}
 use Rattle.indexed.proofs.Order.{collect, collected, upward}

@@ -1,5 +1,5 @@
 -- One step of a walk.
-use Rattle.std.proofs.Common.{◌≡◌, ℕ, ◌<◌, ◌≤◌, Bool, true, false, List, [], ◌∷◌, map, length, get_or, Some, None, Ordering, Less, Equal, Greater, sym, refl, ap, ◌∙◌, subst, arith}
+use Rattle.std.proofs.Common.{◌≡◌, ℕ, ◌<◌, ◌≤◌, Bool, true, false, List, map, length, get_or, Some, None, Ordering, Less, sym, ap, ◌∙◌, arith}
 use Rattle.items.specs.Ascending.{first_of}
 use Rattle.items.proofs.Orders.{by_answer}
 use Rattle.indexed.specs.Links.{reached, last_of, front}

@@ -1,5 +1,5 @@
 -- Cells with items, linked into a thread for each name and a chain for each name and bucket. Both are groups: cells whose items have one key.
-use Rattle.std.specs.Prelude.{◌≡◌, ℕ, zero, suc, ◌+◌, ◌*◌, ◌<◌, ◌≤◌, Bool, true, false, List, [], ◌∷◌, ◌++◌, map, length, nat_eq, slice_index_or}
+use Rattle.std.specs.Prelude.{◌≡◌, ℕ, zero, suc, ◌+◌, ◌*◌, ◌<◌, ◌≤◌, true, List, [], ◌++◌, map, length, nat_eq, slice_index_or}
 use Rattle.std.specs.declared.cmp.Ordering.{Ordering}
 use Rattle.items.specs.Ascending.{kept, ascends}
 use Rattle.items.specs.Items.{item_order}

@@ -1,12 +1,10 @@
 -- What holds of linked lists of cells.
-use Rattle.std.specs.Prelude.{◌≡◌, ℕ, zero, suc, ◌+◌, ◌<◌, ◌≤◌, Bool, true, false, cond, ◌⊎◌, List, [], ◌∷◌, ◌++◌, map, length, ◌≢◌, nat_lt, slice_index, refl}
-use Rattle.std.specs.declared.cmp.Ordering.TheVariants.{Less, Equal, Greater}
+use Rattle.std.specs.Prelude.{◌≡◌, ℕ, zero, suc, ◌+◌, ◌<◌, ◌≤◌, Bool, true, false, List, [], ◌∷◌, ◌++◌, map, length, ◌≢◌, nat_lt, slice_index, refl}
 use Rattle.std.specs.declared.cmp.Ordering.{Ordering}
-use Rattle.std.proofs.Common.{sym, ap, ◌∙◌, subst, inl, inr, ⊎_elim, arith, take-append-drop}
-use Rattle.std.proofs.lemmas.Bool.{lt-ltb, le-ltb, eq-eqb, ne_eqb, cases_eq, cases_Bool, eqb-true, eqb-false}
+use Rattle.std.proofs.Common.{ap, ◌∙◌, ⊎_elim, arith, take-append-drop}
+use Rattle.std.proofs.lemmas.Bool.{lt-ltb, le-ltb, eq-eqb, ne_eqb, cases_eq, cases_Bool}
 use Rattle.std.specs.List.{AllByRecursion as All}
 use Rattle.items.specs.Ascending.{leading, kept}
-use Rattle.items.proofs.Orders.{by_answer}
 use Rattle.indexed.specs.Links.{reached, Leads, last_of, times, front, back}
 
 pub times-same : (j : ℕ) (xs : List ℕ) → times j (j ∷ xs) ≡ 1 + times j xs

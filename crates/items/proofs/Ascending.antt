@@ -1,10 +1,10 @@
 -- What holds of ascending lists, over any total order.
-use Rattle.std.proofs.Common.{◌≡◌, ℕ, zero, suc, ◌+◌, ◌<◌, ◌≤◌, Bool, true, false, cond, ◌&&◌, ◌||◌, ltb, ◌≢◌, List, [], ◌∷◌, ◌++◌, length, get_or, take, drop, is_some, Some, None, Option, Ordering, Less, Equal, Greater, sym, refl, ap, ◌∙◌, subst, ⊎_elim, le_of_suc-le-suc, arith}
+use Rattle.std.proofs.Common.{◌≡◌, ℕ, zero, suc, ◌+◌, ◌<◌, ◌≤◌, Bool, true, false, ◌||◌, List, [], ◌∷◌, length, get_or, is_some, None, Ordering, Less, Equal, Greater, sym, refl, ap, ◌∙◌, arith}
 use Rattle.std.proofs.lemmas.Bool.{and_parts, and_from, false≢true}
 use Rattle.std.specs.List.{insert, remove, slice_get}
-use Rattle.std.specs.Ordering.{ordering_reverse, is_eq, is_ne, is_lt}
+use Rattle.std.specs.Ordering.{ordering_reverse, is_eq, is_lt}
 use Rattle.values.specs.Order.{TotalOrder}
-use Rattle.items.specs.Ascending.{first_of, leading, kept, met, heads, ascends, held, placed, without}
+use Rattle.items.specs.Ascending.{first_of, leading, met, heads, ascends, held, placed, without}
 use Rattle.items.proofs.Orders.{by_answer}
 
 pub is-less : (o : Ordering) → is_lt o ≡ true → o ≡ Less

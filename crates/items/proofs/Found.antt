@@ -1,12 +1,12 @@
 -- What is found first in an ascending list is the least, and the meaning of sets.
-use Rattle.std.proofs.Common.{◌≡◌, ℕ, Bool, true, false, cond, ◌&&◌, ◌||◌, List, [], ◌∷◌, Some, None, Ordering, Less, Equal, Greater, sym, refl, ap, ◌∙◌, subst, ⊎_elim, arith}
+use Rattle.std.proofs.Common.{◌≡◌, ℕ, Bool, true, false, ◌&&◌, List, [], ◌∷◌, Some, None, Ordering, Less, Equal, sym, refl, ap, ◌∙◌, ⊎_elim, arith}
 use Rattle.std.proofs.lemmas.Bool.{cases_Bool, and_parts, both_ways}
-use Rattle.std.specs.Ordering.{is_eq, is_ne, is_lt}
+use Rattle.std.specs.Ordering.{is_ne}
 use Rattle.values.specs.Order.{TotalOrder}
-use Rattle.items.specs.Ascending.{first_of, ascends, heads, held, placed, without}
+use Rattle.items.specs.Ascending.{first_of, ascends, heads, held, without}
 use Rattle.items.specs.Sets.{SetMeaning}
 use Rattle.items.proofs.Orders.{by_answer}
-use Rattle.items.proofs.Ascending.{is-less, less-greater, heads-down, held-above, ascends-placed, ascends-without, held-placed, without_gone, without-stays}
+use Rattle.items.proofs.Ascending.{held-above, ascends-placed, ascends-without, held-placed, without_gone, without-stays}
 
 pub first_passes : {X : Type 0} (w : X → Bool) (y : X) (xs : List X) → first_of w xs ≡ Some y → w y ≡ true
 first_passes w y [] = λ e. cc

@@ -1,5 +1,5 @@
 -- The items of an ascending list, name by name.
-use Rattle.std.proofs.Common.{◌≡◌, ℕ, ◌+◌, ◌<◌, ◌≤◌, true, cond, ◌&&◌, eqb, ltb, leb, List, [], ◌∷◌, ◌++◌, Ordering, sym, refl, ap, ◌∙◌, inl, inr, arith}
+use Rattle.std.proofs.Common.{◌≡◌, ℕ, ◌+◌, ◌<◌, ◌≤◌, true, List, [], ◌∷◌, ◌++◌, Ordering, refl, ap, ◌∙◌, inl, inr, arith}
 use Rattle.std.proofs.lemmas.Bool.{and_parts, both_ways, cases_order, eq-eqb, le-leb, le-ltb, lt-leb, ne_eqb}
 use Rattle.std.specs.Ordering.{is_lt, ordering_then}
 use Rattle.values.specs.Order.{by_number}

@@ -2,8 +2,7 @@
 use Rattle.std.proofs.Common.{◌≡◌, ℕ, ◌<◌, Bool, true, false, cond, ltb, refl, ⊎_elim, arith, ltb-true}
 use Rattle.std.proofs.lemmas.Bool.{cases_Bool}
 use Rattle.items.specs.Items.{add_rule}
-use Rattle.items.specs.declared.added.Added.{Added}
-use Rattle.items.specs.declared.added.Added.TheVariants.{Held, Put, Full}
+use Rattle.items.specs.declared.added.Added.TheVariants.{Put, Full}
 
 room : (n l : ℕ) → cond (ltb n l) Put Full ≡ Put → n < l
 room n l =

@@ -1,5 +1,5 @@
 -- Whether one shelf holds each item of another: what the walks keep.
-use Rattle.std.proofs.Common.{◌≡◌, ℕ, ◌+◌, ◌≤◌, Bool, true, false, ◌&&◌, List, [], Some, None, Option, Ordering, sym, refl, ap, ◌∙◌}
+use Rattle.std.proofs.Common.{◌≡◌, ℕ, ◌+◌, ◌≤◌, Bool, true, false, ◌&&◌, List, Some, None, Option, Ordering, sym, ap, ◌∙◌}
 use Rattle.values.specs.Order.{TotalOrder}
 use Rattle.items.specs.Ascending.{ascends, held, kept}
 use Rattle.items.specs.Items.{ByteNames, from_name, item_order, named, next_of, wanted}

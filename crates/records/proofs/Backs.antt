@@ -1,13 +1,13 @@
 -- What is written reads back.
-use Rattle.std.proofs.Common.{◌≡◌, ℕ, ◌+◌, ◌-◌, ◌/◌, ◌%◌, ◌<◌, true, eqb, List, [], ◌∷◌, ◌++◌, length, take, drop, Some, None, Ok, Option, sym, refl, ap, ◌∙◌, subst, arith, length-append}
-use Rattle.std.proofs.lemmas.List.{append_assoc, drop_at, drop-drop, take_at}
+use Rattle.std.proofs.Common.{◌≡◌, ℕ, ◌+◌, ◌/◌, ◌%◌, ◌<◌, eqb, List, [], ◌∷◌, ◌++◌, length, drop, Some, None, Ok, Option, sym, refl, ap, ◌∙◌, subst, arith, length-append}
+use Rattle.std.proofs.lemmas.List.{append_assoc, drop_at, drop-drop}
 use Rattle.std.proofs.lemmas.Bool.{cond-true, cond-false, eq-eqb, ne_eqb}
 use Rattle.values.specs.Form.{Bytes, Reading, WrittenForm, bytes_in}
 use Rattle.records.proofs.ByteLists.{bytes_drop}
 use Rattle.records.specs.Fields.{bit_of, fields_of, map_of}
 use Rattle.records.specs.declared.event.Event.{Event}
 use Rattle.records.specs.Record.{before, event, event_bytes, field_at, field_bytes, fields_at, fields_bytes, follow, found, joined, kind_fits, record_at, record_in}
-use Rattle.records.proofs.Filling.{HasBytes, Parts, has-bytes, parts, some_is, some_same}
+use Rattle.records.proofs.Filling.{HasBytes, Parts, has-bytes, parts, some_same}
 
 joined-nil : (o : Option (List ℕ)) → joined (Some []) o ≡ o
 joined-nil None = refl

@@ -1,5 +1,5 @@
 -- Parts of lists of bytes are lists of bytes.
-use Rattle.std.proofs.Common.{◌≡◌, ℕ, ◌+◌, List, ◌++◌, get_or, drop}
+use Rattle.std.proofs.Common.{ℕ, ◌+◌, List, drop}
 use Rattle.std.proofs.lemmas.List.{get_or-drop}
 use Rattle.values.specs.Form.{Bytes}
 

@@ -1,16 +1,16 @@
 -- Reading and writing undo one another: from what is known of one record to what the reader and the writer answer.
-use Rattle.std.proofs.Common.{◌≡◌, ℕ, ◌+◌, ◌-◌, ◌<◌, ◌≤◌, Bool, true, false, cond, ltb, List, [], ◌∷◌, ◌++◌, length, take, drop, Some, None, Ok, Err, Option, Result, sym, refl, ap, ◌∙◌, subst, ⊎_elim, arith, length-append, length-drop, length-take}
+use Rattle.std.proofs.Common.{◌≡◌, ℕ, ◌+◌, ◌-◌, ◌<◌, ◌≤◌, Bool, true, false, ltb, List, ◌++◌, length, take, drop, Some, None, Ok, Err, Option, Result, sym, refl, ap, ◌∙◌, subst, ⊎_elim, arith, length-append, length-drop, length-take}
 use Rattle.std.proofs.lemmas.List.{drop_at, take_at}
-use Rattle.std.proofs.lemmas.Bool.{cases_Bool, cond-false, cond-true, le-ltb, lt-ltb, ltb-false}
+use Rattle.std.proofs.lemmas.Bool.{cases_Bool, cond-false, cond-true, le-ltb, lt-ltb}
 use Rattle.refusals.specs.Telling.{Told}
 use Rattle.values.specs.Form.{Bytes, Reading, WrittenForm, filled}
 use Rattle.records.specs.declared.event.Event.{Event}
-use Rattle.records.specs.Reader.{Step, next_at, stepped}
+use Rattle.records.specs.Reader.{next_at, stepped}
 use Rattle.records.specs.Record.{event_bytes, record_at}
 use Rattle.records.specs.RoundTrip.{RoundTrip, leaves, reading}
 use Rattle.records.specs.Writer.{Write, too_short, writes}
 use Rattle.records.proofs.Backs.{record-back}
-use Rattle.records.proofs.Covers.{RecordRead, record-read}
+use Rattle.records.proofs.Covers.{record-read}
 use Rattle.records.proofs.Filling.{has-bytes}
 
 -- a write that answers n had bytes, n of them, and room for them

@@ -1,5 +1,5 @@
 -- The phases of a book, and which calls they allow.
-use Rattle.std.specs.Prelude.{◌≡◌, Bool, true, false, Ok, Err, Result}
+use Rattle.std.specs.Prelude.{Bool, true, false, Ok, Err, Result}
 use Rattle.refusals.specs.declared.refusal.Refusal.{Refusal}
 use Rattle.refusals.specs.declared.refusal.Refusal.TheVariants.{WrongPhase}
 use Rattle.rules.specs.declared.phase.Phase.{Phase}

@@ -1,5 +1,5 @@
 -- A word that is not the filler's means the reference of its bytes.
-use Rattle.std.proofs.Common.{◌≡◌, ℕ, Bool, false, cond, List, Some, Ok, Option, Result, sym, ap, ◌∙◌}
+use Rattle.std.proofs.Common.{◌≡◌, ℕ, Bool, false, cond, List, Some, Ok, Result, sym, ap, ◌∙◌}
 use Rattle.values.specs.declared.reference.Reference.{Reference}
 use Rattle.values.specs.ReferenceForm.{reference_is}
 use Rattle.scripts.specs.declared.misfit.Misfit.{Misfit}

@@ -1,5 +1,5 @@
 -- Keyed sheets: one value of each event, its key, decides which items the event can touch.
-use Rattle.std.specs.Prelude.{ℕ, Bool, true, false, cond, not, ◌&&◌, ◌||◌, List, [], ◌∷◌, Some, None, Option, ◌==◌, nat_lt}
+use Rattle.std.specs.Prelude.{ℕ, Bool, true, false, cond, not, ◌&&◌, ◌||◌, List, Some, None, Option, ◌==◌, nat_lt}
 use Rattle.sheets.specs.declared.tables.State.{State}
 use Rattle.sheets.specs.declared.tables.Row.{Row}
 use Rattle.sheets.specs.declared.tables.EventKind.{EventKind}

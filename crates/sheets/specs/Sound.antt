@@ -1,5 +1,5 @@
 -- The rules that every sheet keeps.
-use Rattle.std.specs.Prelude.{ℕ, Bool, true, false, not, ◌&&◌, ◌||◌, List, [], ◌∷◌, ◌++◌, length, Some, None, Option, ◌==◌, nat_eq, nat_le, nat_lt}
+use Rattle.std.specs.Prelude.{ℕ, Bool, true, false, not, ◌&&◌, ◌||◌, List, [], ◌∷◌, ◌++◌, length, ◌==◌, nat_eq, nat_le, nat_lt}
 use Rattle.sheets.specs.declared.tables.State.{State}
 use Rattle.sheets.specs.declared.tables.Row.{Row}
 use Rattle.sheets.specs.declared.tables.EventKind.{EventKind}

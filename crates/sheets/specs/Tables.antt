@@ -1,5 +1,5 @@
 -- A sheet as lists, and what it says of a state and of an event kind.
-use Rattle.std.specs.Prelude.{ℕ, Bool, true, false, List, [], ◌∷◌, Some, None, Option, slice_index_or}
+use Rattle.std.specs.Prelude.{ℕ, false, List, [], ◌∷◌, Some, None, Option, slice_index_or}
 use Rattle.sheets.specs.declared.tables.State.{State}
 use Rattle.sheets.specs.declared.tables.Row.{Row}
 use Rattle.sheets.specs.declared.tables.EventKind.{EventKind}

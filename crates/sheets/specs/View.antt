@@ -1,5 +1,5 @@
 -- A sheet of the program, as lists; and what a load answers.
-use Rattle.std.specs.Prelude.{◌≡◌, List, Some, None, Ok, Err, vec_items, Option, Result}
+use Rattle.std.specs.Prelude.{◌≡◌, Some, None, Ok, Err, vec_items, Option, Result}
 use Rattle.refusals.specs.declared.refusal.Refusal.{Refusal}
 use Rattle.sheets.specs.declared.fault.LoadError.{LoadError}
 use Rattle.sheets.specs.declared.fault.LoadError.TheVariants.{Refused, Memory}

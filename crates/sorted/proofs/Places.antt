@@ -1,13 +1,12 @@
 -- What a search looks for goes up with the order, and meets exactly the wanted items.
-use Rattle.std.proofs.Common.{◌≡◌, ℕ, ◌<◌, ◌≤◌, Bool, true, false, cond, ◌&&◌, eqb, List, Some, None, Option, Ordering, Less, Equal, Greater, sym, refl, ap, ◌∙◌, arith}
+use Rattle.std.proofs.Common.{◌≡◌, ℕ, ◌≤◌, ◌&&◌, eqb, Some, None, Option, Ordering, Less, Equal, Greater, refl, arith}
 use Rattle.std.proofs.lemmas.Bool.Decides.{nat_tests}
-use Rattle.std.specs.Ordering.{is_eq, is_lt, ordering_then, ordering_index as rank}
+use Rattle.std.specs.Ordering.{is_eq, ordering_then, ordering_index as rank}
 use Rattle.values.specs.Order.{TotalOrder, by_number}
-use Rattle.items.specs.Items.{item_order, agrees, is_above, wanted, next_of}
-use Rattle.items.specs.Ascending.{first_of}
+use Rattle.items.specs.Items.{item_order, agrees, is_above, wanted}
 use Rattle.items.specs.declared.item.Item.{Item}
 use Rattle.items.proofs.Orders.{by_answer, number-total, item-total}
-use Rattle.items.proofs.Ascending.{Steady, probe-item, less-greater, greater-less, is-less}
+use Rattle.items.proofs.Ascending.{Steady, probe-item}
 use Rattle.sorted.specs.Place.{first_place, above_place, range_place, place_of}
 use Rattle.sorted.specs.declared.mark.Mark.{Mark}
 use Rattle.sorted.specs.declared.mark.Mark.TheVariants.{At, Among}

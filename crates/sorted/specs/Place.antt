@@ -1,6 +1,6 @@
 -- Where an item stands against what is looked for: before it, at it or past it.
 use Rattle.std.specs.Prelude.{ℕ, cond, Some, None, Option}
-use Rattle.std.specs.declared.cmp.Ordering.TheVariants.{Less, Equal, Greater}
+use Rattle.std.specs.declared.cmp.Ordering.TheVariants.{Less, Equal}
 use Rattle.std.specs.declared.cmp.Ordering.{Ordering}
 use Rattle.std.specs.Ordering.{is_lt, ordering_then}
 use Rattle.values.specs.Order.{by_number}

@@ -1,24 +1,22 @@
 -- What is counted move by move is what an event adds.
-use Rattle.std.proofs.Common.{◌≡◌, ℕ, ◌+◌, ◌-◌, ◌<◌, ◌≤◌, Bool, true, false, cond, not, ◌&&◌, ◌||◌, List, [], ◌∷◌, ◌++◌, length, get_or, take, drop, Ordering, Less, Equal, Greater, sym, refl, ap, ◌∙◌, ⊎_elim, zero-add, arith}
-use Rattle.std.proofs.lemmas.List.{drop_more, take_more, at_drop_all}
+use Rattle.std.proofs.Common.{◌≡◌, ℕ, ◌+◌, ◌-◌, ◌<◌, Bool, true, false, cond, not, ◌&&◌, ◌||◌, List, [], ◌∷◌, ◌++◌, length, get_or, take, drop, Ordering, sym, refl, ap, ◌∙◌, ⊎_elim, zero-add, arith}
+use Rattle.std.proofs.lemmas.List.{drop_more, take_more}
 use Rattle.std.proofs.lemmas.Bool.{and_left, and_parts, and_right, cases_Bool, false≢true}
 use Rattle.std.specs.Ordering.{is_eq, ordering_reverse}
 use Rattle.values.specs.Order.{TotalOrder}
-use Rattle.items.specs.Ascending.{ascends, heads, held, kept}
+use Rattle.items.specs.Ascending.{ascends, held, kept}
 use Rattle.items.specs.Items.{item_order, named}
 use Rattle.items.specs.declared.item.Item.{Item}
-use Rattle.items.proofs.Kept.{kept_same}
-use Rattle.items.proofs.Ascending.{equal-equal, held-above}
+use Rattle.items.proofs.Ascending.{held-above}
 use Rattle.items.proofs.Orders.{by_answer, item-total}
 use Rattle.rules.specs.Kinds.{ValueKind}
-use Rattle.rules.specs.Step.{Asks, FiredOut, LapsedOut, Repeats, Starts, StruckOut, caused_by, count_added, gone, how_many, moved, moved_by, new_set, repeated, taken, with_all}
+use Rattle.rules.specs.Step.{Asks, FiredOut, LapsedOut, Repeats, Starts, StruckOut, count_added, gone, how_many, moved, moved_by, new_set, repeated, taken, with_all}
 use Rattle.rules.specs.declared.moves.Cause.{Cause}
 use Rattle.rules.specs.declared.moves.Cause.TheVariants.{Fired, Lapsed, Asked, Struck}
 use Rattle.rules.specs.declared.moves.Move.{Move}
 use Rattle.sheets.specs.Words.{some}
 use Rattle.step.specs.Counts.{count_from, is_counted, is_gone, part_of}
 use Rattle.step.specs.Sets.{is_for, takes_out}
-use Rattle.step.specs.declared.part.Part.{Part}
 use Rattle.step.specs.declared.part.Part.TheVariants.{Ask, Repeat, Out}
 use Rattle.step.proofs.SetSizes.{held-left, held-there, left_by, moved-some, some-append, taken-append, taken_none}
 use Rattle.step.proofs.SetSteps.{kept-kept, taken_more}

@@ -1,20 +1,12 @@
 -- What the items of a name give, where the walk keeps to the event's scope.
-use Rattle.std.proofs.Common.{◌≡◌, ℕ, Bool, true, false, cond, not, ◌&&◌, eqb, List, [], ◌∷◌, ◌++◌, Some, None, Option, Ordering, sym, refl, ap, ◌∙◌}
-use Rattle.std.proofs.lemmas.Bool.{and_from, and_parts, and_right, both_ways, eqb-true, not_from_false}
+use Rattle.std.proofs.Common.{◌≡◌, ℕ, Bool, true, false, ◌&&◌, List, [], Some, None, Option, Ordering, sym, refl}
+use Rattle.std.proofs.lemmas.Bool.{and_parts, both_ways, eqb-true, not_from_false}
 use Rattle.std.specs.List.{flat_map}
-use Rattle.firing.specs.Effects.{item_gives}
-use Rattle.firing.specs.declared.at.SheetEvent.{SheetEvent}
 use Rattle.items.specs.Ascending.{kept}
 use Rattle.items.specs.Items.{agrees, wanted, named}
 use Rattle.items.specs.declared.item.Item.{Item}
-use Rattle.rules.specs.Kinds.{ValueKind}
-use Rattle.sheets.specs.Tables.{state_of}
-use Rattle.sheets.specs.declared.tables.Entry.{Entry}
-use Rattle.sheets.specs.declared.tables.Row.{Row}
-use Rattle.step.specs.Scopes.{Quiet, skipped}
-use Rattle.step.specs.declared.scope.Scope.{Scope}
+use Rattle.step.specs.Scopes.{skipped}
 use Rattle.step.specs.declared.scope.Scope.TheVariants.{Only, Nothing}
-use Rattle.step.proofs.Skips.{quiet-gives}
 use Rattle.step.proofs.Walks.{joined-narrow, joined-none}
 
 module _ {V X : Type 0} (order : V → V → Ordering) (f : Item V → List X) (n : ℕ) (xs : List (Item V)) where

@@ -1,19 +1,19 @@
 -- The size of the new set, move by move.
-use Rattle.std.proofs.Common.{◌≡◌, ℕ, ◌+◌, ◌-◌, ◌<◌, ◌≤◌, Bool, true, false, cond, not, ◌&&◌, ◌||◌, List, [], ◌∷◌, ◌++◌, length, get_or, take, drop, Ordering, Less, Equal, Greater, sym, refl, ap, ◌∙◌, ⊎_elim, arith}
+use Rattle.std.proofs.Common.{◌≡◌, ℕ, ◌+◌, ◌-◌, ◌<◌, ◌≤◌, Bool, true, false, cond, not, ◌&&◌, ◌||◌, List, [], ◌∷◌, ◌++◌, length, get_or, take, drop, Ordering, sym, refl, ap, ◌∙◌, ⊎_elim, arith}
 use Rattle.std.proofs.lemmas.List.{drop_more, take_more}
 use Rattle.std.proofs.lemmas.Bool.{and_from, and_parts, cases_Bool}
 use Rattle.std.specs.Ordering.{is_eq}
 use Rattle.values.specs.Order.{TotalOrder}
-use Rattle.items.specs.Ascending.{ascends, heads, held, kept, placed, without}
+use Rattle.items.specs.Ascending.{ascends, heads, held, kept, placed}
 use Rattle.items.specs.Items.{item_order}
 use Rattle.items.specs.declared.item.Item.{Item}
 use Rattle.items.proofs.Kept.{kept_same}
 use Rattle.items.proofs.Ascending.{ascends-placed, heads-down, held-placed, is-less, length-placed, length_without, without-none}
 use Rattle.items.proofs.Orders.{by_answer, item-total}
 use Rattle.rules.specs.Kinds.{ValueKind}
-use Rattle.rules.specs.Step.{caused_by, moved, moved_by, new_set, taken, with_all}
+use Rattle.rules.specs.Step.{caused_by, moved, moved_by, taken, with_all}
 use Rattle.rules.specs.declared.moves.Cause.{Cause}
-use Rattle.rules.specs.declared.moves.Cause.TheVariants.{Fired, Lapsed, Asked, Struck}
+use Rattle.rules.specs.declared.moves.Cause.TheVariants.{Asked}
 use Rattle.rules.specs.declared.moves.Move.{Move}
 use Rattle.sheets.specs.Words.{some}
 use Rattle.step.specs.Sets.{in_by, is_for, out_by, takes_item, takes_out}

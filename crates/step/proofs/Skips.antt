@@ -1,7 +1,7 @@
 -- An item outside an event's scope is quiet, and a quiet item gives nothing.
 use Rattle.std.proofs.Common.{◌≡◌, ℕ, ◌+◌, ◌<◌, ◌≤◌, Bool, true, false, cond, not, ◌&&◌, eqb, ltb, leb, List, [], ◌∷◌, ◌++◌, length, Some, None, Option, Ordering, Less, Equal, Greater, unwrap_or, sym, refl, ap, ◌∙◌, subst, ⊎_elim, arith}
 use Rattle.std.proofs.lemmas.List.{get_or_past}
-use Rattle.std.proofs.lemmas.Bool.{and_left, and_parts, and_right, cases_Bool, eqb-true, false≢true, leb-true, ltb-true}
+use Rattle.std.proofs.lemmas.Bool.{and_left, and_parts, and_right, cases_Bool, eqb-true, false≢true, ltb-true}
 use Rattle.std.specs.Ordering.{is_eq, ordering_reverse}
 use Rattle.std.specs.List.{flat_map, AllByRecursion as All}
 use Rattle.values.specs.Order.{TotalOrder}
@@ -20,7 +20,7 @@ use Rattle.sheets.specs.declared.tables.State.{State}
 use Rattle.sheets.specs.declared.tables.Want.{Want}
 use Rattle.sheets.specs.declared.tables.Want.TheVariants as want
 use Rattle.rules.specs.Kinds.{ValueKind}
-use Rattle.rules.specs.Step.{Numbered, cell_holds, condition_holds, fired_rows, meets_field, numbered_from, own_value, row_fires}
+use Rattle.rules.specs.Step.{Numbered, cell_holds, condition_holds, fired_rows, meets_field, numbered_from, row_fires}
 use Rattle.firing.specs.At.{event_in, sheet_in}
 use Rattle.firing.specs.Effects.{is_filled, item_gives, row_gives}
 use Rattle.firing.specs.declared.at.SheetEvent.{SheetEvent}

@@ -1,5 +1,5 @@
 -- What is counted move by move.
-use Rattle.std.specs.Prelude.{ℕ, ◌+◌, Bool, true, false, cond, not, ◌&&◌, ◌||◌, List, [], ◌∷◌, ◌++◌}
+use Rattle.std.specs.Prelude.{ℕ, ◌+◌, Bool, false, cond, not, ◌&&◌, ◌||◌, List, [], ◌∷◌, ◌++◌}
 use Rattle.items.specs.Ascending.{held, kept}
 use Rattle.items.specs.Items.{item_order, named}
 use Rattle.items.specs.declared.item.Item.{Item}

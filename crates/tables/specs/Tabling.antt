@@ -1,5 +1,5 @@
 -- The tables that a script builds, as lists.
-use Rattle.std.specs.Prelude.{ℕ, List, [], ◌∷◌, ◌++◌, replicate, Ok, Err, vec_items, Result}
+use Rattle.std.specs.Prelude.{List, [], ◌∷◌, ◌++◌, replicate, Ok, Err, vec_items, Result}
 use Rattle.sheets.specs.declared.tables.Row.{Row}
 use Rattle.sheets.specs.declared.tables.EventKind.{EventKind}
 use Rattle.sheets.specs.Tables.{SheetModel, sheet_of, unwatched}

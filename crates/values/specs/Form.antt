@@ -1,5 +1,5 @@
 -- The written form of a kind of value.
-use Rattle.std.specs.Prelude.{◌≡◌, ℕ, ◌<◌, ◌≤◌, List, [], ◌++◌, length, take, drop, Some, Ok, Err, Option, Result, slice_index}
+use Rattle.std.specs.Prelude.{◌≡◌, ℕ, ◌<◌, ◌≤◌, List, [], ◌++◌, length, take, drop, Some, Ok, Option, Result, slice_index}
 use Rattle.std.specs.Option.{unwrap_or}
 
 -- a list of bytes, as every slice of `u8` is

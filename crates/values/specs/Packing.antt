@@ -1,5 +1,5 @@
 -- The written form of a reference keeps its laws.
-use Rattle.std.specs.Prelude.{◌≡◌, ℕ, zero, suc, ◌+◌, ◌-◌, ◌<◌, ◌≤◌, true, false, cond, ◌&&◌, List, [], ◌∷◌, ◌++◌, length, take, drop, replicate, Some, None, Ok, Err, ◌==◌, nat_eq, nat_le, nat_lt, refl}
+use Rattle.std.specs.Prelude.{◌≡◌, ℕ, zero, suc, ◌+◌, ◌-◌, ◌<◌, ◌≤◌, true, false, cond, ◌&&◌, List, [], ◌∷◌, ◌++◌, length, take, drop, replicate, Some, None, Ok, ◌==◌, nat_eq, nat_le, nat_lt, refl}
 use Rattle.std.proofs.Common.{sym, ap, ◌∙◌, ⊎_elim, one-add, arith, length-append, length-take, length-drop}
 use Rattle.std.proofs.lemmas.List.{take_at, take_all, take-append-drop, get_or-drop, length-replicate}
 use Rattle.std.proofs.lemmas.Bool.{cond-true, cond-false, eq-eqb, eqb-true, cases_Bool, le-leb, leb-true, le-ltb, lt-ltb, ltb-true, ltb-false, and_parts, and_from}

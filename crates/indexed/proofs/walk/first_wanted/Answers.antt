@@ -1,4 +1,4 @@
-use Rattle.std.proofs.Common.{◌≡◌, [], Some, sym, ap, ◌∙◌, arith}
+use Rattle.std.proofs.Common.{[], Some, sym, ap, ◌∙◌, arith}
 use Rattle.std.proofs.lemmas.List.{get_or_read}
 use Rattle.items.specs.Items.{wanted}
 use Rattle.indexed.specs.Index.{item_in}

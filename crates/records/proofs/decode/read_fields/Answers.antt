@@ -1,4 +1,4 @@
-use Rattle.std.proofs.Common.{sym, arith}
+use Rattle.std.proofs.Common.{arith}
 use Rattle.std.proofs.lemmas.Result.{err_from_is_err_and}
 use Rattle.records.proofs.FieldReads.{come-more, come-stop, come-end}
 use Rattle.records.proofs.decode.read_fields.Goals as goal

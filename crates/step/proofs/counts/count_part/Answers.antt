@@ -1,4 +1,4 @@
-use Rattle.std.proofs.Common.{◌≡◌, Bool, true, false, take, sym, refl, ap, ◌∙◌, arith}
+use Rattle.std.proofs.Common.{true, false, take, arith}
 use Rattle.std.proofs.lemmas.List.{at_drop_all}
 use Rattle.rules.specs.Kinds.{values_by}
 use Rattle.step.specs.Counts.{count_from, is_counted}

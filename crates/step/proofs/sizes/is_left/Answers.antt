@@ -1,4 +1,4 @@
-use Rattle.std.proofs.Common.{sym, ◌∙◌, rules}
+use Rattle.std.proofs.Common.{rules}
 use Rattle.rules.specs.Kinds.{values_by}
 use Rattle.step.proofs.SetSizes.{held-left}
 use Rattle.step.proofs.sizes.is_left.Goals as goal

@@ -1,4 +1,4 @@
-use Rattle.std.proofs.Common.{◌≡◌, sym, ap, ◌∙◌, arith}
+use Rattle.std.proofs.Common.{sym, ap, ◌∙◌, arith}
 use Rattle.values.specs.NumberForm.{holds_in}
 use Rattle.values.specs.Widths.{code_here, code-later, narrow-le}
 use Rattle.values.proofs.numbers.code_of.Goals as goal

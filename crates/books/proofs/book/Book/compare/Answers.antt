@@ -1,4 +1,4 @@
-use Rattle.std.proofs.Common.{true, false, sym, refl, ◌∙◌}
+use Rattle.std.proofs.Common.{sym, refl, ◌∙◌}
 use Rattle.std.proofs.lemmas.Bool.{false≢true}
 use Rattle.rules.specs.Kinds.{values_by}
 use Rattle.rules.proofs.Stands.{law}

@@ -1,4 +1,4 @@
-use Rattle.std.proofs.Common.{true, false, Some, Ok, sym, ap, ◌∙◌, subst}
+use Rattle.std.proofs.Common.{false, Some, Ok, sym, ap, ◌∙◌, subst}
 use Rattle.std.proofs.lemmas.Bool.{false≢true}
 use Rattle.rules.specs.Book.{batched}
 use Rattle.rules.specs.Kinds.{values_by}

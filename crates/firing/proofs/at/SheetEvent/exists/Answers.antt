@@ -1,4 +1,3 @@
-use Rattle.std.proofs.Common.{sym}
 use Rattle.items.proofs.Next.{coming-less}
 use Rattle.rules.specs.Kinds.{values_by}
 use Rattle.rules.specs.Step.{is_of}

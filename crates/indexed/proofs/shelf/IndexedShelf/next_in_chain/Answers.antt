@@ -1,6 +1,6 @@
-use Rattle.std.proofs.Common.{◌+◌, Some, ap, ◌∙◌}
+use Rattle.std.proofs.Common.{◌+◌, Some}
 use Rattle.items.specs.Items.{wanted}
-use Rattle.indexed.proofs.Finds.{walk_same, chain-walk, chain_first, first_found, chain-begins}
+use Rattle.indexed.proofs.Finds.{walk_same, chain-walk, first_found, chain-begins}
 use Rattle.indexed.proofs.shelf.IndexedShelf.next_in_chain.Goals as goal
 
 pub first_wanted-requires : goal.first_wanted-requires

@@ -1,4 +1,4 @@
-use Rattle.std.proofs.Common.{◌≡◌, ◌<◌, sym, subst, arith}
+use Rattle.std.proofs.Common.{◌<◌}
 use Rattle.indexed.proofs.Finds.{name-walk, name-first, entry-walk, entry-begins, held-walk, held-begins}
 use Rattle.indexed.proofs.shelf.IndexedShelf.thread_start.Goals as goal
 

@@ -1,4 +1,4 @@
-use Rattle.std.proofs.Common.{length, vec_items, ap, ◌∙◌, arith, leb-true}
+use Rattle.std.proofs.Common.{length, vec_items, ap, arith, leb-true}
 use Rattle.std.proofs.lemmas.Bool.{and_parts}
 use Rattle.sheets.specs.Sound.{sound_tables}
 use Rattle.sheets.proofs.sheet.Sheet.states.Goals as goal
