@@ -1,5 +1,6 @@
 // A session over one kind of value: what a `sheet` line begins.
 ghost use Rattle.sessionbooks.specs.Meaning.{SessionRight};
+ghost use Rattle.sessionbooks.specs.Props.{SessionRight-prop};
 
 use answers::{Fault, Output, report, show_batch, show_keyed, show_refusal, show_written};
 use commands::{Command, command_of};
@@ -29,13 +30,13 @@ pub struct Session<V: Bucketed> {
     tables: Tables<V>,
     // The books that the script has made.
     kept: SessionBooks<V>,
+    // They stand on shelves that are rightly made.
+    ghost right: { SessionRight V.Value.order V.Bucketed.bucket_of V.Value.blank kept } by { SessionRight-prop V.Value.order V.Bucketed.bucket_of V.Value.blank kept },
 }
 
 impl<V: ScriptValue> Session<V> {
     // Empty tables, and no book.
-    pub fn new(heap: Global) -> Session<V>
-        ensures { SessionRight V.Value.order V.Bucketed.bucket_of V.Value.blank result.kept }
-    {
+    pub fn new(heap: Global) -> Session<V> {
         Session {
             tables: Tables::new(heap),
             kept: SessionBooks::new(heap),
@@ -66,10 +67,7 @@ impl<V: ScriptValue> Session<V> {
         out: &mut Output,
         sheet: &Sheet<V>,
         words: &[&str],
-    ) -> Result<Option<Stop<V>>, Fault>
-        requires { SessionRight V.Value.order V.Bucketed.bucket_of V.Value.blank self.old.kept }
-        ensures { SessionRight V.Value.order V.Bucketed.bucket_of V.Value.blank self.new.kept }
-    {
+    ) -> Result<Option<Stop<V>>, Fault> {
         let heap = rt.alloc();
         match command_of::<V>(heap, words)? {
             Command::Table(line) => self.tables.change(heap, line)?,
@@ -89,10 +87,7 @@ impl<V: ScriptValue> Session<V> {
         out: &mut Output,
         sheet: &Sheet<V>,
         line: &[u8],
-    ) -> Result<Option<Stop<V>>, Fault>
-        requires { SessionRight V.Value.order V.Bucketed.bucket_of V.Value.blank self.old.kept }
-        ensures { SessionRight V.Value.order V.Bucketed.bucket_of V.Value.blank self.new.kept }
-    {
+    ) -> Result<Option<Stop<V>>, Fault> {
         let words = words_of(rt.alloc(), line)?;
         match line_of(words.as_slice())? {
             Line::Remark => Ok(None),
@@ -108,10 +103,7 @@ impl<V: ScriptValue> Session<V> {
         out: &mut Output,
         script: &mut Script,
         sheet: &Sheet<V>,
-    ) -> io::Result<Stop<V>>
-        requires { SessionRight V.Value.order V.Bucketed.bucket_of V.Value.blank self.old.kept }
-        ensures { SessionRight V.Value.order V.Bucketed.bucket_of V.Value.blank self.new.kept }
-    {
+    ) -> io::Result<Stop<V>> {
         for _ in 0..script.most_lines() {
             let Some(line) = script.next_line() else {
                 return Ok(Stop::End);

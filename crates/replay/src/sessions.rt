@@ -1,6 +1,4 @@
 // A script as sessions, one behind the other.
-ghost use Rattle.sessionbooks.specs.Meaning.{SessionRight};
-
 use crate::session::{Session, Stop};
 use answers::{Fault, Output, report};
 use scripts::{Line, Misfit, Script, ScriptValue, ValueKind, line_of, words_of};
@@ -59,10 +57,7 @@ fn run_on<V: ScriptValue>(
     script: &mut Script,
     session: &mut Session<V>,
     tables: &Tables<V>,
-) -> io::Result<Stop<V>>
-    requires { SessionRight V.Value.order V.Bucketed.bucket_of V.Value.blank session.old.kept }
-    ensures { SessionRight V.Value.order V.Bucketed.bucket_of V.Value.blank session.new.kept }
-{
+) -> io::Result<Stop<V>> {
     let heap = rt.alloc();
     let mut sheet = Sheet::new(heap);
     stand(heap, tables, &mut sheet)?;

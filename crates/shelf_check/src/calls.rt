@@ -80,10 +80,16 @@ fn held_by_both<V: Drawn, S: Shelf<Of = V>, T: Shelf<Of = V>>(
     one.holds(&x) == other.holds(&x)
 }
 
+fn sizes_of_both<V: Drawn, S: Shelf<Of = V>, T: Shelf<Of = V>>(one: &S, other: &T) -> bool
+    requires { (S.Shelf.right one.now) × (T.Shelf.right other.now) }
+{
+    one.count() == other.count() && one.limit() == other.limit()
+}
+
 fn stand_alike<V: Drawn, S: Shelf<Of = V>, T: Shelf<Of = V>>(one: &S, other: &T) -> bool
     requires { (S.Shelf.right one.now) × (T.Shelf.right other.now) }
 {
-    one.count() == other.count() && one.limit() == other.limit() && same_items(one, other)
+    sizes_of_both(one, other) && same_items(one, other)
 }
 
 fn next_of_both<V: Drawn, S: Shelf<Of = V>, T: Shelf<Of = V>>(

@@ -6,11 +6,11 @@ ghost use Rattle.scripts.specs.declared.misfit.Misfit.TheVariants.{NoMemory};
 ghost use Rattle.tables.specs.Building.{rows_with};
 ghost use Rattle.tables.specs.Tabling.{changed, no_tables, tables_of};
 
-use crate::kinds::{set_key, watch};
+use crate::kinds::{no_kinds, set_key, watch};
 use crate::rows::{bare_row, row_with};
 use crate::tables::Tables;
 use scripts::Misfit;
-use sheets::{LoadError, Row, Sheet, nothing_watched};
+use sheets::{LoadError, Row, Sheet};
 use std::alloc::{AllocError, Global};
 use tablelines::{RowLine, TableLine};
 
@@ -35,7 +35,7 @@ impl<V: Copy> Tables<V> {
         Tables {
             states: Vec::new(heap),
             rows: Vec::new(heap),
-            kinds: nothing_watched(),
+            kinds: no_kinds(),
             constants: Vec::new(heap),
         }
     }
