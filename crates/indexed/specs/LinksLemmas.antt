@@ -3,7 +3,7 @@ use Rattle.std.specs.Prelude.{◌≡◌, ℕ, zero, suc, ◌+◌, ◌<◌, ◌�
 use Rattle.std.specs.declared.cmp.Ordering.{Ordering}
 use Rattle.std.proofs.Common.{ap, ◌∙◌, ⊎_elim, arith, take-append-drop}
 use Rattle.std.proofs.lemmas.Bool.{lt-ltb, le-ltb, eq-eqb, ne_eqb, cases_eq, cases_Bool}
-use Rattle.std.specs.List.{AllByRecursion as All}
+use Rattle.std.specs.List.{AllByRecursion}
 use Rattle.items.specs.Ascending.{leading, kept}
 use Rattle.indexed.specs.Links.{reached, Leads, last_of, times, front, back}
 
@@ -84,7 +84,7 @@ kept_same f g [] s = refl
 kept_same f g (x ∷ xs) s = let e = s x (omega (arith, times-same x xs)) in let r = kept_same f g xs (λ j h. s j (omega arith)) in simp (e, r)
 
 -- what holds of each cell that stands in the list holds of all
-pub all_listed : (P : ℕ → Type 0) (xs : List ℕ) → ((j : ℕ) → 1 ≤ times j xs → P j) → All P xs
+pub all_listed : (P : ℕ → Type 0) (xs : List ℕ) → ((j : ℕ) → 1 ≤ times j xs → P j) → AllByRecursion P xs
 all_listed P [] h = tt
 all_listed P (x ∷ xs) h = (h x (omega (arith, times-same x xs)), all_listed P xs (λ j i. h j (omega arith)))
 

@@ -1,7 +1,7 @@
 -- What is kept of a list, and what holds of each element once one is put in or taken out.
 use Rattle.std.proofs.Common.{◌≡◌, Bool, true, false, cond, List, [], ◌∷◌, ◌++◌, Ordering, refl, ap, ⊎_elim}
 use Rattle.std.proofs.lemmas.Bool.{cases_Bool}
-use Rattle.std.specs.List.{AllByRecursion as All}
+use Rattle.std.specs.List.{AllByRecursion}
 use Rattle.items.specs.Ascending.{kept, placed, without}
 use Rattle.items.proofs.Orders.{by_answer}
 
@@ -21,10 +21,10 @@ kept_same p q e [] = refl
 kept_same p q e (x ∷ xs) = rw (e x) (ap (λ l. cond (q x) (x ∷ l) l) (kept_same p q e xs))
 
 module _ {X : Type 0} (order : X → X → Ordering) (P : X → Type 0) where
-  pub all_placed : (x : X) (xs : List X) → P x → All P xs → All P (placed order x xs)
+  pub all_placed : (x : X) (xs : List X) → P x → AllByRecursion P xs → AllByRecursion P (placed order x xs)
   all_placed x [] p h = (p, tt)
   all_placed x (y ∷ ys) p h = by_answer (order x y) (λ e. rw e (p, h)) (λ e. rw e h) (λ e. rw e (h.0, all_placed x ys p h.1))
 
-  pub all_without : (x : X) (xs : List X) → All P xs → All P (without order x xs)
+  pub all_without : (x : X) (xs : List X) → AllByRecursion P xs → AllByRecursion P (without order x xs)
   all_without x [] h = tt
   all_without x (y ∷ ys) h = by_answer (order x y) (λ e. rw e h) (λ e. rw e h.1) (λ e. rw e (h.0, all_without x ys h.1))

@@ -2,7 +2,7 @@
 use Rattle.std.specs.Prelude.{ℕ, ◌<◌, min, Bool, true, cond, ◌&&◌, List, length, Some, None, Option, ◌==◌, nat_le, nat_lt}
 use Rattle.std.specs.declared.cmp.Ordering.{Ordering}
 use Rattle.std.specs.Ordering.{is_eq, is_lt, ordering_then}
-use Rattle.std.specs.List.{AllByRecursion as All}
+use Rattle.std.specs.List.{AllByRecursion}
 use Rattle.values.specs.Order.{by_number}
 use Rattle.items.specs.Ascending.{first_of, held, placed}
 use Rattle.items.specs.declared.item.Item.{Item}
@@ -28,7 +28,7 @@ module _ {V : Type 0} where
 
   -- the name of each item is a byte
   abbrev pub ByteNames : List (Item V) → Type 0
-  ByteNames xs = All (λ (x : Item V). x.name < 256) xs
+  ByteNames xs = AllByRecursion (λ (x : Item V). x.name < 256) xs
 
 module _ {V : Type 0} (order : V → V → Ordering) where
   -- by name, then by first, second and third value

@@ -1,6 +1,6 @@
 -- The init items of some states, one state after the other.
 use Rattle.std.proofs.Common.{◌≡◌, ℕ, zero, suc, ◌+◌, ◌<◌, ◌≤◌, Bool, true, false, cond, ◌&&◌, eqb, ltb, List, [], ◌∷◌, ◌++◌, length, get_or, take, drop, sym, refl, ap, ◌∙◌, subst, ⊎_elim, append_assoc, arith}
-use Rattle.std.specs.List.{AllByRecursion as All}
+use Rattle.std.specs.List.{AllByRecursion}
 use Rattle.std.proofs.lemmas.List.{append-nil, at_drop_all, drop_more, length-set, length-take, take_more}
 use Rattle.std.proofs.lemmas.Bool.{cases_Bool, ltb-true, ne_eqb}
 use Rattle.items.specs.Ascending.{placed}
@@ -41,21 +41,21 @@ module _ {V : Type 0} (K : ValueKind V) where
       ∙ sym (append_assoc (cond d.init (plain_item K n ∷ []) []) (inits_from K (n + 1) ds) (inits_from K (n + length (d ∷ ds)) es))
 
   -- names of init items are below the number of the states
-  below : (n : ℕ) (ds : List State) → All (λ (x : Item V). x.name < n + length ds) (inits_from K n ds)
+  below : (n : ℕ) (ds : List State) → AllByRecursion (λ (x : Item V). x.name < n + length ds) (inits_from K n ds)
   below n [] = tt
   below n (d ∷ ds) = go d.init (below (n + 1) ds)
     where
-      raise : (m k : ℕ) → m ≡ k → (xs : List (Item V)) → All (λ (x : Item V). x.name < m) xs → All (λ (x : Item V). x.name < k) xs
+      raise : (m k : ℕ) → m ≡ k → (xs : List (Item V)) → AllByRecursion (λ (x : Item V). x.name < m) xs → AllByRecursion (λ (x : Item V). x.name < k) xs
       raise m k e [] a = tt
       raise m k e (x ∷ xs) a = (omega (arith, a.0), raise m k e xs a.1)
 
-      go : (b : Bool) → All (λ (x : Item V). x.name < n + 1 + length ds) (inits_from K (n + 1) ds)
-          → All (λ (x : Item V). x.name < n + length (d ∷ ds)) (cond b (plain_item K n ∷ []) [] ++ inits_from K (n + 1) ds)
+      go : (b : Bool) → AllByRecursion (λ (x : Item V). x.name < n + 1 + length ds) (inits_from K (n + 1) ds)
+          → AllByRecursion (λ (x : Item V). x.name < n + length (d ∷ ds)) (cond b (plain_item K n ∷ []) [] ++ inits_from K (n + 1) ds)
       go true a = (omega arith, raise _ _ (omega arith) (inits_from K (n + 1) ds) a)
       go false a = raise _ _ (omega arith) (inits_from K (n + 1) ds) a
 
   -- an item behind all others is put in at the end
-  placed-last : (x : Item V) (xs : List (Item V)) → All (λ (y : Item V). y.name < x.name) xs → placed (item_order K.order) x xs ≡ xs ++ x ∷ []
+  placed-last : (x : Item V) (xs : List (Item V)) → AllByRecursion (λ (y : Item V). y.name < x.name) xs → placed (item_order K.order) x xs ≡ xs ++ x ∷ []
   placed-last x [] a = refl
   placed-last x (y ∷ ys) a =
       let p = lt_not x.name y.name a.0 in
@@ -91,8 +91,8 @@ module _ {V : Type 0} (K : ValueKind V) where
         long : 0 + length (take i ds) ≡ i
         long = simp length-take (omega arith)
 
-        low : All (λ (y : Item V). y.name < (plain_item K i).name) (inits_from K 0 (take i ds))
-        low = subst (λ k. All (λ (y : Item V). y.name < k) (inits_from K 0 (take i ds))) long (below 0 (take i ds))
+        low : AllByRecursion (λ (y : Item V). y.name < (plain_item K i).name) (inits_from K 0 (take i ds))
+        low = subst (λ k. AllByRecursion (λ (y : Item V). y.name < k) (inits_from K 0 (take i ds))) long (below 0 (take i ds))
 
         go : (b : Bool) → d.init ≡ b → inits_from K 0 (take i ds) ++ inits_from K (0 + length (take i ds)) (d ∷ []) ≡ started_with K i d (inits_from K 0 (take i ds))
         go true e = ap (λ m. inits_from K 0 (take i ds) ++ inits_from K m (d ∷ [])) long ∙ rw e (sym (placed-last (plain_item K i) (inits_from K 0 (take i ds)) low))

@@ -1,6 +1,6 @@
 -- What comes in with one event, and over a run, is open or went out for one reason.
 use Rattle.std.proofs.Common.{◌≡◌, ℕ, ◌+◌, Bool, true, false, cond, not, ◌&&◌, ◌||◌, List, [], ◌∷◌, ◌++◌, length, sym, refl, ap, ◌∙◌, arith}
-use Rattle.std.specs.List.{AllByRecursion as All}
+use Rattle.std.specs.List.{AllByRecursion}
 use Rattle.std.proofs.lemmas.Bool.{false≢true}
 use Rattle.values.specs.Order.{TotalOrder}
 use Rattle.records.specs.declared.event.Event.{Event}
@@ -31,7 +31,7 @@ module _ {X : Type 0} where
       go false e ih = rw e (omega arith)
 
   -- each counts under the first cause that applies
-  count-causes : (p f l t : X → Bool) (xs : List X) → All (λ x. (f x || (l x || t x)) ≡ true) xs
+  count-causes : (p f l t : X → Bool) (xs : List X) → AllByRecursion (λ x. (f x || (l x || t x)) ≡ true) xs
       → counting p xs
       ≡ counting (λ x. p x && f x) xs + counting (λ x. p x && (not (f x) && l x)) xs + counting (λ x. p x && (not (f x) && (not (l x) && t x))) xs
   count-causes p f l t [] h = refl

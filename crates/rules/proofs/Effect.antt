@@ -1,6 +1,6 @@
 -- The new set and the counts of one event, seen from one key.
 use Rattle.std.proofs.Common.{◌≡◌, ℕ, Bool, true, false, cond, not, ◌&&◌, ◌||◌, ltb, List, [], ◌∷◌, ◌++◌, Some, None, Option, Ordering, sym, refl, ap, ◌∙◌, subst, ap₂, ⊎_elim}
-use Rattle.std.specs.List.{AllByRecursion as All}
+use Rattle.std.specs.List.{AllByRecursion}
 use Rattle.std.proofs.lemmas.Bool.{true≢false, false≢true, and_parts, or_cases, or_parts, or_right, not-true}
 use Rattle.std.proofs.ByRecursion.{All-weaker}
 use Rattle.values.specs.Order.{TotalOrder}
@@ -22,15 +22,15 @@ use Rattle.rules.proofs.Sets.{Rising, same, same-eq, held_in, held_kept, held-to
 use Rattle.rules.proofs.Slice.{relevant, OfKey, keyless-moves, slice-moves, slice-key}
 
 -- what holds of all that is moved holds of what is moved for a cause
-moved_all : {V : Type 0} (P : Item V → Type 0) (c : Cause) (ms : List (Move V)) → All (λ (m : Move V). P m.item) ms → All P (moved c ms)
+moved_all : {V : Type 0} (P : Item V → Type 0) (c : Cause) (ms : List (Move V)) → AllByRecursion (λ (m : Move V). P m.item) ms → AllByRecursion P (moved c ms)
 moved_all P c [] h = tt
 moved_all P c (m ∷ ms) h = go (caused_by c m) refl (moved_all P c ms h.1)
   where
-    go : (b : Bool) → caused_by c m ≡ b → All P (moved c ms) → All P (moved c (m ∷ ms))
+    go : (b : Bool) → caused_by c m ≡ b → AllByRecursion P (moved c ms) → AllByRecursion P (moved c (m ∷ ms))
     go true e ih = rw e (h.0, ih)
     go false e ih = rw e ih
 
-held_all : {X : Type 0} {order : X → X → Ordering} → TotalOrder order → (P : X → Type 0) (x : X) (xs : List X) → All P xs
+held_all : {X : Type 0} {order : X → X → Ordering} → TotalOrder order → (P : X → Type 0) (x : X) (xs : List X) → AllByRecursion P xs
     → held order x xs ≡ true → P x
 held_all T P x [] h e = absurd (false≢true e)
 held_all {order = order} T P x (y ∷ ys) h e =
@@ -89,7 +89,7 @@ module _ {V : Type 0} (K : ValueKind V) (T : TotalOrder K.order) where
       go true e = e
       go false e = absurd (true≢false (sym (held_kept cmp (λ y. not (taken K ms y)) x F ∙ rw (e, i)) ∙ out))
 
-  pub gone-taken : (ms : List (Move V)) (F : List (Item V)) → All (λ x. taken K ms x ≡ true) (gone K ms F)
+  pub gone-taken : (ms : List (Move V)) (F : List (Item V)) → AllByRecursion (λ x. taken K ms x ≡ true) (gone K ms F)
   unfolding gone
   gone-taken ms F =
       kept-when (λ x. not (in_set K x (new_set K ms F))) (λ x. taken K ms x ≡ true) F
@@ -99,7 +99,7 @@ module _ {V : Type 0} (K : ValueKind V) (T : TotalOrder K.order) where
       (λ x i h. missing-taken ms F x (held_in cmp x F i) (not-true (in_set K x (new_set K ms F)) h)))
 
   -- what is asked again, from sets that agree on what is asked
-  repeated-alike : (P : Item V → Type 0) (F G as' : List (Item V)) → ((a : Item V) → P a → in_set K a F ≡ in_set K a G) → All P as'
+  repeated-alike : (P : Item V → Type 0) (F G as' : List (Item V)) → ((a : Item V) → P a → in_set K a F ≡ in_set K a G) → AllByRecursion P as'
       → repeated K F as' ≡ repeated K G as'
   repeated-alike P F G [] h p = refl
   repeated-alike P F G (a ∷ more) h p =
@@ -113,7 +113,7 @@ module _ {V : Type 0} (K : ValueKind V) (T : TotalOrder K.order) where
     unfoldable pub read_by : V → Item V → Bool
     read_by = relevant K T s
 
-    subjects : (k : V) (c : Cause) (ms : List (Move V)) → All (OfKey K T s k) ms → All (λ x. of_key K s k x ≡ true) (moved c ms)
+    subjects : (k : V) (c : Cause) (ms : List (Move V)) → AllByRecursion (OfKey K T s k) ms → AllByRecursion (λ x. of_key K s k x ≡ true) (moved c ms)
     subjects k c ms h = moved_all (λ x. of_key K s k x ≡ true) c ms h
 
     key-read : (k : V) (x : Item V) → of_key K s k x ≡ true → read_by k x ≡ true
@@ -131,7 +131,7 @@ module _ {V : Type 0} (K : ValueKind V) (T : TotalOrder K.order) where
         let p = and_parts (ltb 0 (state_of s.states x.name).parameters) (same K.order x.first j) h in
         rw p.0 (rw (same-eq T x.first j p.1) n)
 
-    taken-key : (k : V) (ms : List (Move V)) → All (OfKey K T s k) ms → (x : Item V) → taken K ms x ≡ true → of_key K s k x ≡ true
+    taken-key : (k : V) (ms : List (Move V)) → AllByRecursion (OfKey K T s k) ms → (x : Item V) → taken K ms x ≡ true → of_key K s k x ≡ true
     unfolding taken
     taken-key k ms h x e =
         ⊎_elim (own Fired)
@@ -152,7 +152,7 @@ module _ {V : Type 0} (K : ValueKind V) (T : TotalOrder K.order) where
           ∙ ap (λ G. with_all (item_order K.order) G (kept (read_by k) (moved Asked ms))) (kept-swap (read_by k) (λ x. not (taken K ms x)) F)
 
       -- moves of key k, seen from k
-      new-own : (k : V) → All (OfKey K T s k) ms → kept (read_by k) (new_set K ms F) ≡ new_set K ms (kept (read_by k) F)
+      new-own : (k : V) → AllByRecursion (OfKey K T s k) ms → kept (read_by k) (new_set K ms F) ≡ new_set K ms (kept (read_by k) F)
       unfolding new_set
       new-own k h =
           kept_new k
@@ -162,7 +162,7 @@ module _ {V : Type 0} (K : ValueKind V) (T : TotalOrder K.order) where
           (All-weaker (λ x. of_key K s k x ≡ true) (λ x. read_by k x ≡ true) (key-read k) (moved Asked ms) (subjects k Asked ms h)))
 
       -- and from another key
-      new-other : (k j : V) → same K.order j k ≡ false → All (OfKey K T s j) ms → kept (read_by k) (new_set K ms F) ≡ kept (read_by k) F
+      new-other : (k j : V) → same K.order j k ≡ false → AllByRecursion (OfKey K T s j) ms → kept (read_by k) (new_set K ms F) ≡ kept (read_by k) F
       new-other k j n h =
           kept_new k
           ∙ ap₂ (with_all (item_order K.order))
@@ -179,7 +179,7 @@ module _ {V : Type 0} (K : ValueKind V) (T : TotalOrder K.order) where
               at true e = absurd (true≢false (sym r ∙ key-unread k j x n (taken-key j ms h x e)))
               at false e = rw e
 
-      gone-own : (k : V) → All (OfKey K T s k) ms → gone K ms F ≡ gone K ms (kept (read_by k) F)
+      gone-own : (k : V) → AllByRecursion (OfKey K T s k) ms → gone K ms F ≡ gone K ms (kept (read_by k) F)
       unfolding gone
       gone-own k h =
           sym (kept-all (read_by k) (kept out F) reads)
@@ -194,7 +194,7 @@ module _ {V : Type 0} (K : ValueKind V) (T : TotalOrder K.order) where
           out : Item V → Bool
           out x = not (in_set K x (new_set K ms F))
 
-          reads : All (λ x. read_by k x ≡ true) (kept out F)
+          reads : AllByRecursion (λ x. read_by k x ≡ true) (kept out F)
           reads =
               All-weaker (λ x. taken K ms x ≡ true) (λ x. read_by k x ≡ true)
               (λ x e. key-read k x (taken-key k ms h x e))
@@ -204,7 +204,7 @@ module _ {V : Type 0} (K : ValueKind V) (T : TotalOrder K.order) where
           same_out x r = ap not (sym (ap (in_set K x) (sym (new-own k h)) ∙ (held_kept cmp (read_by k) x (new_set K ms F) ∙ rw r)))
 
       -- every count of moves of key k, seen from k
-      counted-own : (k : V) → All (OfKey K T s k) ms → (c : Count) (n : ℕ) → count_added K c n ms F ≡ count_added K c n ms (kept (read_by k) F)
+      counted-own : (k : V) → AllByRecursion (OfKey K T s k) ms → (c : Count) (n : ℕ) → count_added K c n ms F ≡ count_added K c n ms (kept (read_by k) F)
       unfolding count_added
       counted-own k h Starts n = refl
       counted-own k h Asks n = refl

@@ -1,6 +1,6 @@
 -- What is known of a sheet that is sound and keyed.
 use Rattle.std.proofs.Common.{◌≡◌, ℕ, ◌<◌, Bool, true, false, cond, not, ◌&&◌, ◌||◌, eqb, ltb, leb, List, [], ◌∷◌, ◌++◌, length, Some, None, Option, sym, refl, ap, ◌∙◌, inl, inr, arith, ltb-true}
-use Rattle.std.specs.List.{AllByRecursion as All}
+use Rattle.std.specs.List.{AllByRecursion}
 use Rattle.std.proofs.lemmas.Bool.{false≢true, and_parts, eqb-true, not-true, or_parts}
 use Rattle.std.proofs.ByRecursion.{All-weaker}
 use Rattle.sheets.specs.Keyed.{is_argument, is_first, key_argument, keyed_cell, keyed_condition, keyed_entry, keyed_parts, keyed_pattern, keyed_row, keyed_state}
@@ -106,8 +106,8 @@ module _ {V : Type 0} (s : SheetModel V) where
     pub wants : KeyWant (state_of s.states row.source).parameters cell.want key
     pub source : row.source < length s.states
     pub cells : sound_cells (length s.constants) (state_of s.states row.source).parameters [] (present row.cells) ≡ true
-    pub conditions : All (λ (c : Condition). KeyPattern key c.pattern) (present row.conditions)
-    pub entries : All (KeyEntry key) (present row.entries)
+    pub conditions : AllByRecursion (λ (c : Condition). KeyPattern key c.pattern) (present row.conditions)
+    pub entries : AllByRecursion (KeyEntry key) (present row.entries)
 
   key-pattern : (a : Argument) (x : Pattern) → keyed_pattern s.states a x ≡ true → KeyPattern a x
   key-pattern a x h =
@@ -169,7 +169,7 @@ module _ {V : Type 0} (s : SheetModel V) where
           }
 
   -- an init state has no parameters
-  pub sound-inits : SoundSheet s → All (λ (d : State). d.init ≡ true → d.parameters ≡ 0) s.states
+  pub sound-inits : SoundSheet s → AllByRecursion (λ (d : State). d.init ≡ true → d.parameters ≡ 0) s.states
   unfolding sound_tables
   sound-inits h =
       let a1 = and_parts (leb (length s.states) 32) _ h in
@@ -187,7 +187,7 @@ module _ {V : Type 0} (s : SheetModel V) where
       plain d e i = eqb-true d.parameters 0 (rw i at e)
 
   -- the rows
-  pub keyed-rows : SoundSheet s → KeyedSheet s → All RowFacts s.rows
+  pub keyed-rows : SoundSheet s → KeyedSheet s → AllByRecursion RowFacts s.rows
   unfolding sound_tables
   keyed-rows h k =
       let a1 = and_parts (leb (length s.states) 32) _ h in
@@ -201,14 +201,14 @@ module _ {V : Type 0} (s : SheetModel V) where
       (every-all (sound_row s.states (length s.constants)) s.rows a6.0)
       (every-all (keyed_row s.states s.kinds) s.rows b.1)
     where
-      both : (rs : List Row) → All (λ r. sound_row s.states (length s.constants) r ≡ true) rs
-          → All (λ r. keyed_row s.states s.kinds r ≡ true) rs → All RowFacts rs
+      both : (rs : List Row) → AllByRecursion (λ r. sound_row s.states (length s.constants) r ≡ true) rs
+          → AllByRecursion (λ r. keyed_row s.states s.kinds r ≡ true) rs → AllByRecursion RowFacts rs
       both [] f g = tt
       both (r ∷ rs) f g = (row-facts r f.0 g.0, both rs f.1 g.1)
 
   -- a state without parameters is always, and none is step or next
   pub keyed-states : KeyedSheet s
-      → All (λ (d : State). (d.parameters ≡ 0 → d.always ≡ true) × ((d.step ≡ false) × (d.next ≡ false))) s.states
+      → AllByRecursion (λ (d : State). (d.parameters ≡ 0 → d.always ≡ true) × ((d.step ≡ false) × (d.next ≡ false))) s.states
   keyed-states k =
       All-weaker (λ (d : State). keyed_state d ≡ true)
       (λ (d : State). (d.parameters ≡ 0 → d.always ≡ true) × ((d.step ≡ false) × (d.next ≡ false)))

@@ -1,6 +1,6 @@
 -- What the proofs use of the words on lists.
 use Rattle.std.proofs.Common.{◌≡◌, ℕ, zero, suc, ◌+◌, ◌<◌, Bool, true, false, cond, ◌&&◌, ◌⊎◌, List, [], ◌∷◌, ◌++◌, length, get_or, sym, refl, ap, ◌∙◌, subst, ap₂, inl, inr, append_assoc, arith}
-use Rattle.std.specs.List.{flat_map, AllByRecursion as All}
+use Rattle.std.specs.List.{flat_map, AllByRecursion}
 use Rattle.std.proofs.lemmas.Bool.{true≢false, false≢true, and_parts}
 use Rattle.std.proofs.ByRecursion.{All-append}
 use Rattle.items.specs.Ascending.{kept}
@@ -27,7 +27,7 @@ count-is p (x ∷ xs) = go (p x) refl (count-is p xs)
 
 -- a test that each passes, or that some pass
 module _ {X : Type 0} where
-  pub every-all : (p : X → Bool) (xs : List X) → every p xs ≡ true → All (λ x. p x ≡ true) xs
+  pub every-all : (p : X → Bool) (xs : List X) → every p xs ≡ true → AllByRecursion (λ x. p x ≡ true) xs
   every-all p [] h = tt
   every-all p (x ∷ xs) h = let q = and_parts (p x) (every p xs) h in (q.0, every-all p xs q.1)
 
@@ -39,35 +39,35 @@ module _ {X : Type 0} where
       go true e later = (x, inl refl, e)
       go false e later = let r = later (rw e at h) in (r.0, inr r.1, r.2)
 
-  pub all-kept : (p : X → Bool) (P : X → Type 0) (xs : List X) → All P xs → All P (kept p xs)
+  pub all-kept : (p : X → Bool) (P : X → Type 0) (xs : List X) → AllByRecursion P xs → AllByRecursion P (kept p xs)
   all-kept p P [] h = tt
   all-kept p P (x ∷ xs) h = go (p x) refl (all-kept p P xs h.1)
     where
-      go : (b : Bool) → p x ≡ b → All P (kept p xs) → All P (kept p (x ∷ xs))
+      go : (b : Bool) → p x ≡ b → AllByRecursion P (kept p xs) → AllByRecursion P (kept p (x ∷ xs))
       go true e ih = rw e (h.0, ih)
       go false e ih = rw e ih
 
 module _ {X : Type 0} where
-  pub in_all : (P : X → Type 0) (x : X) (xs : List X) → All P xs → In x xs → P x
+  pub in_all : (P : X → Type 0) (x : X) (xs : List X) → AllByRecursion P xs → In x xs → P x
   in_all P x [] h i = absurd i
   in_all P x (y ∷ ys) h (inl e) = subst P e h.0
   in_all P x (y ∷ ys) h (inr i) = in_all P x ys h.1 i
 
-  pub all-each : (P : X → Type 0) → ((x : X) → P x) → (xs : List X) → All P xs
+  pub all-each : (P : X → Type 0) → ((x : X) → P x) → (xs : List X) → AllByRecursion P xs
   all-each P f [] = tt
   all-each P f (x ∷ xs) = (f x, all-each P f xs)
 
-  pub all-from-in : (P : X → Type 0) (xs : List X) → ((x : X) → In x xs → P x) → All P xs
+  pub all-from-in : (P : X → Type 0) (xs : List X) → ((x : X) → In x xs → P x) → AllByRecursion P xs
   all-from-in P [] f = tt
   all-from-in P (x ∷ xs) f = (f x (inl refl), all-from-in P xs (λ y i. f y (inr i)))
 
   -- a list's entry or the default
-  pub all-at : (P : X → Type 0) (xs : List X) (d : X) → All P xs → P d → (i : ℕ) → P (get_or xs i d)
+  pub all-at : (P : X → Type 0) (xs : List X) (d : X) → AllByRecursion P xs → P d → (i : ℕ) → P (get_or xs i d)
   all-at P [] d h p i = p
   all-at P (x ∷ xs) d h p zero = h.0
   all-at P (x ∷ xs) d h p (suc i) = all-at P xs d h.1 p i
 
-  pub all-below : (P : X → Type 0) (xs : List X) (d : X) → All P xs → (i : ℕ) → i < length xs → P (get_or xs i d)
+  pub all-below : (P : X → Type 0) (xs : List X) (d : X) → AllByRecursion P xs → (i : ℕ) → i < length xs → P (get_or xs i d)
   all-below P [] d h i l = absurd (omega arith)
   all-below P (x ∷ xs) d h zero l = h.0
   all-below P (x ∷ xs) d h (suc i) l = all-below P xs d h.1 i (omega arith)
@@ -77,19 +77,19 @@ module _ {X : Type 0} where
   every_in p x (y ∷ ys) h (inl e) = subst (λ z. p z ≡ true) e (and_parts (p y) (every p ys) h).0
   every_in p x (y ∷ ys) h (inr i) = every_in p x ys (and_parts (p y) (every p ys) h).1 i
 
-  pub every-alike : (p q : X → Bool) (xs : List X) → All (λ x. p x ≡ q x) xs → every p xs ≡ every q xs
+  pub every-alike : (p q : X → Bool) (xs : List X) → AllByRecursion (λ x. p x ≡ q x) xs → every p xs ≡ every q xs
   every-alike p q [] h = refl
   every-alike p q (x ∷ xs) h = ap₂ ◌&&◌ h.0 (every-alike p q xs h.1)
 
-  pub kept-alike : (p q : X → Bool) (xs : List X) → All (λ x. p x ≡ q x) xs → kept p xs ≡ kept q xs
+  pub kept-alike : (p q : X → Bool) (xs : List X) → AllByRecursion (λ x. p x ≡ q x) xs → kept p xs ≡ kept q xs
   kept-alike p q [] h = refl
   kept-alike p q (x ∷ xs) h = rw (h.0, kept-alike p q xs h.1)
 
-  pub kept-all : (p : X → Bool) (xs : List X) → All (λ x. p x ≡ true) xs → kept p xs ≡ xs
+  pub kept-all : (p : X → Bool) (xs : List X) → AllByRecursion (λ x. p x ≡ true) xs → kept p xs ≡ xs
   kept-all p [] h = refl
   kept-all p (x ∷ xs) h = rw h.0 (ap (λ r. x ∷ r) (kept-all p xs h.1))
 
-  pub kept-none : (p : X → Bool) (xs : List X) → All (λ x. p x ≡ false) xs → kept p xs ≡ []
+  pub kept-none : (p : X → Bool) (xs : List X) → AllByRecursion (λ x. p x ≡ false) xs → kept p xs ≡ []
   kept-none p [] h = refl
   kept-none p (x ∷ xs) h = rw h.0 (kept-none p xs h.1)
 
@@ -114,11 +114,11 @@ module _ {X : Type 0} where
       go false true e f ih = rw (e, f) (rw e ih)
       go false false e f ih = rw (e, f) ih
 
-  pub kept-passing : (p : X → Bool) (xs : List X) → All (λ x. p x ≡ true) (kept p xs)
+  pub kept-passing : (p : X → Bool) (xs : List X) → AllByRecursion (λ x. p x ≡ true) (kept p xs)
   kept-passing p [] = tt
   kept-passing p (x ∷ xs) = go (p x) refl (kept-passing p xs)
     where
-      go : (b : Bool) → p x ≡ b → All (λ y. p y ≡ true) (kept p xs) → All (λ y. p y ≡ true) (kept p (x ∷ xs))
+      go : (b : Bool) → p x ≡ b → AllByRecursion (λ y. p y ≡ true) (kept p xs) → AllByRecursion (λ y. p y ≡ true) (kept p (x ∷ xs))
       go true e ih = rw e (e, ih)
       go false e ih = rw e ih
 
@@ -133,11 +133,11 @@ module _ {X : Type 0} where
       go false true e f ih = rw (e, f) (rw e ih)
       go false false e f ih = rw (e, f) ih
 
-  pub kept-when : (p : X → Bool) (P : X → Type 0) (xs : List X) → All (λ x. p x ≡ true → P x) xs → All P (kept p xs)
+  pub kept-when : (p : X → Bool) (P : X → Type 0) (xs : List X) → AllByRecursion (λ x. p x ≡ true → P x) xs → AllByRecursion P (kept p xs)
   kept-when p P [] h = tt
   kept-when p P (x ∷ xs) h = go (p x) refl (kept-when p P xs h.1)
     where
-      go : (b : Bool) → p x ≡ b → All P (kept p xs) → All P (kept p (x ∷ xs))
+      go : (b : Bool) → p x ≡ b → AllByRecursion P (kept p xs) → AllByRecursion P (kept p (x ∷ xs))
       go true e ih = rw e (h.0 e, ih)
       go false e ih = rw e ih
 
@@ -151,11 +151,11 @@ module _ {X : Type 0} where
   in_right x (y ∷ xs) ys i = inr (in_right x xs ys i)
 
 module _ {X Y : Type 0} where
-  pub joined-alike : (f g : X → List Y) (xs : List X) → All (λ x. f x ≡ g x) xs → flat_map f xs ≡ flat_map g xs
+  pub joined-alike : (f g : X → List Y) (xs : List X) → AllByRecursion (λ x. f x ≡ g x) xs → flat_map f xs ≡ flat_map g xs
   joined-alike f g [] h = refl
   joined-alike f g (x ∷ xs) h = ap₂ ◌++◌ h.0 (joined-alike f g xs h.1)
 
-  pub joined-none : (f : X → List Y) (xs : List X) → All (λ x. f x ≡ []) xs → flat_map f xs ≡ []
+  pub joined-none : (f : X → List Y) (xs : List X) → AllByRecursion (λ x. f x ≡ []) xs → flat_map f xs ≡ []
   joined-none f [] h = refl
   joined-none f (x ∷ xs) h = rw h.0 (joined-none f xs h.1)
 
@@ -167,7 +167,7 @@ module _ {X Y : Type 0} where
       go true e ih = rw e (ap (λ t. f x ++ t) ih)
       go false e ih = rw (e, h x e) ih
 
-  pub all-joined : (P : Y → Type 0) (f : X → List Y) (xs : List X) → All (λ x. All P (f x)) xs → All P (flat_map f xs)
+  pub all-joined : (P : Y → Type 0) (f : X → List Y) (xs : List X) → AllByRecursion (λ x. AllByRecursion P (f x)) xs → AllByRecursion P (flat_map f xs)
   all-joined P f [] h = tt
   all-joined P f (x ∷ xs) h = All-append P (f x) (flat_map f xs) h.0 (all-joined P f xs h.1)
 

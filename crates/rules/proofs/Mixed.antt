@@ -1,6 +1,6 @@
 -- A sum of costs is decided by each key's costs in order, however the keys are mixed.
 use Rattle.std.proofs.Common.{◌≡◌, ℕ, ◌+◌, Bool, true, false, cond, List, [], ◌∷◌, ◌++◌, Some, None, Option, Ordering, sym, refl, ap, ◌∙◌, arith}
-use Rattle.std.specs.List.{AllByRecursion as All}
+use Rattle.std.specs.List.{AllByRecursion}
 use Rattle.std.proofs.lemmas.Bool.{false≢true}
 use Rattle.values.specs.Order.{TotalOrder}
 use Rattle.rules.proofs.Sets.{same, same-eq, same_refl}
@@ -33,7 +33,7 @@ module _ {K : Type 0} (order : K → K → Ordering) (T : TotalOrder order) wher
     total : sum cs ≡ n + sum others
     own : costs j others ≡ rest
     apart : (k : K) → same order j k ≡ false → costs k others ≡ costs k cs
-    free : All Free others
+    free : AllByRecursion Free others
 
   nothing : {A : Type 0} (n : ℕ) (ns : List ℕ) → [] ≡ n ∷ ns → A
   nothing n ns e = let z : ◌≡◌ {A = ℕ} 0 1 = cc in absurd (omega arith)
@@ -42,7 +42,7 @@ module _ {K : Type 0} (order : K → K → Ordering) (T : TotalOrder order) wher
   matched-key j None e = absurd (false≢true e)
   matched-key j (Some i) e = ap Some (same-eq T i j e)
 
-  without : (j : K) (n : ℕ) (rest : List ℕ) (cs : List (Cost K)) → All Free cs → costs j cs ≡ n ∷ rest → Without j n rest cs
+  without : (j : K) (n : ℕ) (rest : List ℕ) (cs : List (Cost K)) → AllByRecursion Free cs → costs j cs ≡ n ∷ rest → Without j n rest cs
   without j n rest [] f h = nothing n rest h
   without j n rest (c ∷ cs) f h = go (matches j c.key) refl (without j n rest cs f.1)
     where
@@ -62,7 +62,7 @@ module _ {K : Type 0} (order : K → K → Ordering) (T : TotalOrder order) wher
             free = (f.0, w.free);
           }
 
-  pub mixed : (cs ds : List (Cost K)) → All Free cs → All Free ds → ((k : K) → costs k cs ≡ costs k ds) → sum cs ≡ sum ds
+  pub mixed : (cs ds : List (Cost K)) → AllByRecursion Free cs → AllByRecursion Free ds → ((k : K) → costs k cs ≡ costs k ds) → sum cs ≡ sum ds
   mixed [] [] f g h = refl
   mixed [] (d ∷ ds) f g h = go d.key refl (mixed [] ds f g.1)
     where
@@ -75,7 +75,7 @@ module _ {K : Type 0} (order : K → K → Ordering) (T : TotalOrder order) wher
   mixed (c ∷ cs) ds f g h = go c.key refl (mixed cs)
     where
       go : (o : Option K) → c.key ≡ o
-          → ((us : List (Cost K)) → All Free cs → All Free us → ((k : K) → costs k cs ≡ costs k us) → sum cs ≡ sum us)
+          → ((us : List (Cost K)) → AllByRecursion Free cs → AllByRecursion Free us → ((k : K) → costs k cs ≡ costs k us) → sum cs ≡ sum us)
           → c.cost + sum cs ≡ sum ds
       go None e later =
           let z = f.0 e in

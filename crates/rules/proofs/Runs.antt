@@ -1,7 +1,7 @@
 -- Whole runs under a keyed sheet: what a key has depends on its own events alone.
 use Rattle.std.proofs.Common.{◌≡◌, ℕ, suc, ◌+◌, ◌<◌, ◌≤◌, Bool, true, false, cond, not, eqb, ltb, List, [], ◌∷◌, ◌++◌, map, get_or, Some, None, Option, Less, sym, refl, ap, ◌∙◌, subst, ap₂, arith}
 use mathlib.Core.List.{map-append}
-use Rattle.std.specs.List.{AllByRecursion as All}
+use Rattle.std.specs.List.{AllByRecursion}
 use Rattle.std.proofs.lemmas.Bool.{false≢true, lt-ltb, and_parts, or_right, eq-eqb, ne_eqb}
 use Rattle.std.proofs.ByRecursion.{All-weaker, All-append}
 use Rattle.values.specs.Order.{TotalOrder}
@@ -57,21 +57,21 @@ module _ {V : Type 0} (K : ValueKind V) (T : TotalOrder K.order) (s : SheetModel
   all_found F (e ∷ es) = faults_at K s F e ++ all_found (set_after K s F e) es
 
   -- a key's findings are those with the numbers of its events
-  later-numbers : (k : V) (n : ℕ) (es : List (Event V)) → All (λ m. n < m) (key_numbers K s k n es)
+  later-numbers : (k : V) (n : ℕ) (es : List (Event V)) → AllByRecursion (λ m. n < m) (key_numbers K s k n es)
   later-numbers k n [] = tt
   later-numbers k n (e ∷ es) =
       go (has_key K s k e) refl
       (All-weaker (λ m. n + 1 < m) (λ m. n < m) (λ m h. omega arith) (key_numbers K s k (n + 1) es) (later-numbers k (n + 1) es))
     where
-      go : (b : Bool) → has_key K s k e ≡ b → All (λ m. n < m) (key_numbers K s k (n + 1) es) → All (λ m. n < m) (key_numbers K s k n (e ∷ es))
+      go : (b : Bool) → has_key K s k e ≡ b → AllByRecursion (λ m. n < m) (key_numbers K s k (n + 1) es) → AllByRecursion (λ m. n < m) (key_numbers K s k n (e ∷ es))
       go true f ih = rw f (omega arith, ih)
       go false f ih = rw f ih
 
-  numbered-all : (n : ℕ) (fs : List (Found V)) → All (λ (f : Finding V). f.event ≡ n) (map (numbered_as n) fs)
+  numbered-all : (n : ℕ) (fs : List (Found V)) → AllByRecursion (λ (f : Finding V). f.event ≡ n) (map (numbered_as n) fs)
   numbered-all n [] = tt
   numbered-all n (f ∷ fs) = (refl, numbered-all n fs)
 
-  later-findings : (n : ℕ) (F : List (Item V)) (es : List (Event V)) → All (λ (f : Finding V). n < f.event) (ruled_findings K s n F es)
+  later-findings : (n : ℕ) (F : List (Item V)) (es : List (Event V)) → AllByRecursion (λ (f : Finding V). n < f.event) (ruled_findings K s n F es)
   unfolding findings_at
   later-findings n F [] = tt
   later-findings n F (e ∷ es) =
@@ -85,7 +85,7 @@ module _ {V : Type 0} (K : ValueKind V) (T : TotalOrder K.order) (s : SheetModel
       (ruled_findings K s (n + 1) (set_after K s F e) es)
       (later-findings (n + 1) (set_after K s F e) es))
 
-  none_below : (m : ℕ) (ns : List ℕ) → All (λ i. m < i) ns → some (eqb m) ns ≡ false
+  none_below : (m : ℕ) (ns : List ℕ) → AllByRecursion (λ i. m < i) ns → some (eqb m) ns ≡ false
   none_below m [] h = refl
   none_below m (i ∷ ns) h = rw (ne_eqb m i (λ e. omega (arith, h.0))) (none_below m ns h.1)
 
@@ -146,15 +146,15 @@ module _ {V : Type 0} (K : ValueKind V) (T : TotalOrder K.order) (s : SheetModel
           (numbered-all (n + 1) (faults_at K s F e)))))
 
   -- the init items stand in order, and have no parameters in a sound sheet
-  named-from : (n : ℕ) (ds : List State) → All (λ (x : Item V). n ≤ x.name) (inits_from K n ds)
+  named-from : (n : ℕ) (ds : List State) → AllByRecursion (λ (x : Item V). n ≤ x.name) (inits_from K n ds)
   named-from n [] = tt
   named-from n (d ∷ ds) =
       go d.init refl
       (All-weaker (λ (x : Item V). n + 1 ≤ x.name) (λ (x : Item V). n ≤ x.name) (λ x h. omega arith) (inits_from K (n + 1) ds)
       (named-from (n + 1) ds))
     where
-      go : (b : Bool) → d.init ≡ b → All (λ (x : Item V). n ≤ x.name) (inits_from K (n + 1) ds)
-          → All (λ (x : Item V). n ≤ x.name) (inits_from K n (d ∷ ds))
+      go : (b : Bool) → d.init ≡ b → AllByRecursion (λ (x : Item V). n ≤ x.name) (inits_from K (n + 1) ds)
+          → AllByRecursion (λ (x : Item V). n ≤ x.name) (inits_from K n (d ∷ ds))
       go true e ih = rw e (omega arith, ih)
       go false e ih = rw e ih
 
@@ -177,16 +177,16 @@ module _ {V : Type 0} (K : ValueKind V) (T : TotalOrder K.order) (s : SheetModel
   ascending-inits = ascending-from 0 s.states
 
   plain-from : (n : ℕ) (ds : List State) → ((i : ℕ) → get_or ds i unnamed ≡ state_of s.states (n + i))
-      → All (λ (d : State). d.init ≡ true → d.parameters ≡ 0) ds
-      → All (λ (x : Item V). (state_of s.states x.name).parameters ≡ 0) (inits_from K n ds)
+      → AllByRecursion (λ (d : State). d.init ≡ true → d.parameters ≡ 0) ds
+      → AllByRecursion (λ (x : Item V). (state_of s.states x.name).parameters ≡ 0) (inits_from K n ds)
   plain-from n [] g h = tt
   plain-from n (d ∷ ds) g h = go d.init refl (plain-from (n + 1) ds (λ i. g (suc i) ∙ ap (state_of s.states) (omega arith)) h.1)
     where
       here : d ≡ state_of s.states n
       here = g 0 ∙ ap (state_of s.states) (omega arith)
 
-      go : (b : Bool) → d.init ≡ b → All (λ (x : Item V). (state_of s.states x.name).parameters ≡ 0) (inits_from K (n + 1) ds)
-          → All (λ (x : Item V). (state_of s.states x.name).parameters ≡ 0) (inits_from K n (d ∷ ds))
+      go : (b : Bool) → d.init ≡ b → AllByRecursion (λ (x : Item V). (state_of s.states x.name).parameters ≡ 0) (inits_from K (n + 1) ds)
+          → AllByRecursion (λ (x : Item V). (state_of s.states x.name).parameters ≡ 0) (inits_from K n (d ∷ ds))
       go true e ih = rw e (sym (ap (λ (c : State). c.parameters) here) ∙ h.0 e, ih)
       go false e ih = rw e ih
 

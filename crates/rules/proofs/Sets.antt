@@ -1,7 +1,7 @@
 -- Sets as ascending lists over any total order.
 use Rattle.std.proofs.Common.{◌≡◌, ◌+◌, Bool, true, false, cond, ◌&&◌, ◌||◌, List, [], ◌∷◌, Ordering, Less, Equal, Greater, sym, refl, ap, ◌∙◌, inl, inr, arith}
 use Rattle.std.specs.Ordering.{is_eq}
-use Rattle.std.specs.List.{AllByRecursion as All}
+use Rattle.std.specs.List.{AllByRecursion}
 use Rattle.std.proofs.lemmas.Bool.{true≢false, false≢true, and_from}
 use Rattle.std.proofs.ByRecursion.{All-weaker}
 use Rattle.values.specs.Order.{TotalOrder}
@@ -17,7 +17,7 @@ same order x y = is_eq (order x y)
 -- each element is less than all that follow
 abbrev pub Rising : {X : Type 0} → (X → X → Ordering) → List X → Type 0
 Rising order [] = Unit {0}
-Rising order (x ∷ xs) = All (λ y. order x y ≡ Less) xs × Rising order xs
+Rising order (x ∷ xs) = AllByRecursion (λ y. order x y ≡ Less) xs × Rising order xs
 
 pub rising-ascends : {X : Type 0} (order : X → X → Ordering) (xs : List X) → Rising order xs → ascends order xs ≡ true
 rising-ascends order [] r = refl
@@ -57,18 +57,18 @@ module _ {X : Type 0} {order : X → X → Ordering} (T : TotalOrder order) wher
   pub flip : (x y : X) → order x y ≡ Greater → order y x ≡ Less
   flip x y e = T.swaps x y ∙ rw e
 
-  pub all-less : (x y : X) (ys : List X) → order x y ≡ Less → All (λ z. order y z ≡ Less) ys → All (λ z. order x z ≡ Less) ys
+  pub all-less : (x y : X) (ys : List X) → order x y ≡ Less → AllByRecursion (λ z. order y z ≡ Less) ys → AllByRecursion (λ z. order x z ≡ Less) ys
   all-less x y ys l h = All-weaker (λ z. order y z ≡ Less) (λ z. order x z ≡ Less) (λ z k. T.carries x y z l k) ys h
 
-  pub held-less : (x : X) (ys : List X) → All (λ z. order x z ≡ Less) ys → held order x ys ≡ false
+  pub held-less : (x : X) (ys : List X) → AllByRecursion (λ z. order x z ≡ Less) ys → held order x ys ≡ false
   held-less x [] h = refl
   held-less x (y ∷ ys) h = rw h.0 (held-less x ys h.1)
 
-  pub all_placed : (P : X → Type 0) (x : X) (ys : List X) → P x → All P ys → All P (placed order x ys)
+  pub all_placed : (P : X → Type 0) (x : X) (ys : List X) → P x → AllByRecursion P ys → AllByRecursion P (placed order x ys)
   all_placed P x [] p h = (p, tt)
   all_placed P x (y ∷ ys) p h = go (order x y) refl (all_placed P x ys p h.1)
     where
-      go : (o : Ordering) → order x y ≡ o → All P (placed order x ys) → All P (placed order x (y ∷ ys))
+      go : (o : Ordering) → order x y ≡ o → AllByRecursion P (placed order x ys) → AllByRecursion P (placed order x (y ∷ ys))
       go Less e ih = rw e (p, h)
       go Equal e ih = rw e h
       go Greater e ih = rw e (h.0, ih)
@@ -86,7 +86,7 @@ module _ {X : Type 0} {order : X → X → Ordering} (T : TotalOrder order) wher
   ascending-together F [] a = a
   ascending-together F (x ∷ xs) a = ascending-together (placed order x F) xs (ascending-placed x F a)
 
-  pub all-together : (P : X → Type 0) (F xs : List X) → All P F → All P xs → All P (with_all order F xs)
+  pub all-together : (P : X → Type 0) (F xs : List X) → AllByRecursion P F → AllByRecursion P xs → AllByRecursion P (with_all order F xs)
   all-together P F [] f h = f
   all-together P F (x ∷ xs) f h = all-together P (placed order x F) xs (all_placed P x F h.0 f) h.1
 
@@ -99,7 +99,7 @@ module _ {X : Type 0} {order : X → X → Ordering} (T : TotalOrder order) wher
       go false e ih = rw e ih
 
   -- x stands before all of them
-  pub placed_first : (x : X) (ys : List X) → All (λ z. order x z ≡ Less) ys → placed order x ys ≡ x ∷ ys
+  pub placed_first : (x : X) (ys : List X) → AllByRecursion (λ z. order x z ≡ Less) ys → placed order x ys ≡ x ∷ ys
   placed_first x [] h = refl
   placed_first x (y ∷ ys) h = rw h.0
 

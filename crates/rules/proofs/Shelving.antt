@@ -1,7 +1,7 @@
 -- From moves to a shelf: what leaves is removed one by one, what is asked for is added one by one, and the new set stands.
 use Rattle.std.proofs.Common.{◌≡◌, ℕ, ◌<◌, ◌≤◌, Bool, true, false, cond, not, ◌&&◌, ◌||◌, List, [], ◌∷◌, ◌++◌, map, length, Ordering, Less, sym, refl, ap, ◌∙◌, ap₂, append-nil, arith}
 use mathlib.Core.List.{map-append}
-use Rattle.std.specs.List.{AllByRecursion as All}
+use Rattle.std.specs.List.{AllByRecursion}
 use Rattle.std.proofs.lemmas.Bool.{and_parts, lt-ltb}
 use Rattle.std.proofs.ByRecursion.{All-weaker}
 use Rattle.values.specs.Order.{TotalOrder}
@@ -24,7 +24,7 @@ and-true true = refl
 and-true false = refl
 
 module _ {X : Type 0} {order : X → X → Ordering} (T : TotalOrder order) where
-  all_above : (x : X) (xs : List X) → heads order x xs ≡ true → ascends order xs ≡ true → All (λ y. order x y ≡ Less) xs
+  all_above : (x : X) (xs : List X) → heads order x xs ≡ true → ascends order xs ≡ true → AllByRecursion (λ y. order x y ≡ Less) xs
   all_above x [] h a = tt
   all_above x (y ∷ ys) h a =
       let l = is-less _ h in
@@ -36,7 +36,7 @@ module _ {X : Type 0} {order : X → X → Ordering} (T : TotalOrder order) wher
   ascends-rising [] a = tt
   ascends-rising (x ∷ xs) a = let b = and_parts _ _ a in (all_above x xs b.0 b.1, ascends-rising xs b.1)
 
-  unlike : (p : X → Bool) (x : X) (ys : List X) → All (λ z. order x z ≡ Less) ys → kept p ys ≡ kept (λ z. p z && not (same order z x)) ys
+  unlike : (p : X → Bool) (x : X) (ys : List X) → AllByRecursion (λ z. order x z ≡ Less) ys → kept p ys ≡ kept (λ z. p z && not (same order z x)) ys
   unlike p x ys h =
       kept-alike p (λ z. p z && not (same order z x)) ys
       (All-weaker (λ z. order x z ≡ Less) (λ z. p z ≡ (p z && not (same order z x))) (λ z l. rw (less-greater T x z l) (and-true (p z))) ys h)
@@ -73,7 +73,7 @@ module _ {X : Type 0} {order : X → X → Ordering} (T : TotalOrder order) wher
       (λ f. rw f)
       (λ f. let z = rw f at h in rw f (ap (λ t. y ∷ t) (placed-held x ys z r.1)))
     where
-      held_none : (v : X) (vs : List X) → All (λ w. order v w ≡ Less) vs → held order v vs ≡ false
+      held_none : (v : X) (vs : List X) → AllByRecursion (λ w. order v w ≡ Less) vs → held order v vs ≡ false
       held_none v [] k = refl
       held_none v (w ∷ ws) k = rw k.0 (held_none v ws k.1)
 

@@ -1,6 +1,6 @@
 -- Under a keyed sheet an event reads and changes only the items of its key and reads, but never changes, those without parameters.
 use Rattle.std.proofs.Common.{◌≡◌, ℕ, ◌+◌, ◌<◌, Bool, true, false, cond, not, ◌||◌, eqb, ltb, List, [], ◌∷◌, ◌++◌, length, Some, None, Option, unwrap_or, sym, refl, ap, ◌∙◌, subst, inl, inr, arith}
-use Rattle.std.specs.List.{flat_map, AllByRecursion as All}
+use Rattle.std.specs.List.{flat_map, AllByRecursion}
 use Rattle.std.proofs.lemmas.Bool.{true≢false, false≢true, and_parts, eqb-true, eq-eqb, lt-ltb, ltb-false, or_parts, or_right}
 use Rattle.std.proofs.ByRecursion.{All-append, All-weaker}
 use Rattle.values.specs.Order.{TotalOrder}
@@ -33,7 +33,7 @@ use Rattle.rules.proofs.Facts.{KeyEntry, KeyPattern, RowFacts, bound-once, keyed
 use Rattle.rules.proofs.Lists.{In, all-at, all-below, all-each, all-joined, every-alike, every_in, joined-alike, joined-kept, joined-none, kept-alike, some-kept}
 use Rattle.rules.proofs.Sets.{same, same-eq, same_refl}
 
-all-numbered : (P : Row → Type 0) (n : ℕ) (rs : List Row) → All P rs → All (λ (r : Numbered). P r.row) (numbered_from n rs)
+all-numbered : (P : Row → Type 0) (n : ℕ) (rs : List Row) → AllByRecursion P rs → AllByRecursion (λ (r : Numbered). P r.row) (numbered_from n rs)
 all-numbered P n [] h = tt
 all-numbered P n (r ∷ rs) h = (h.0, all-numbered P (n + 1) rs h.1)
 
@@ -174,7 +174,7 @@ module _ {V : Type 0} (K : ValueKind V) (T : TotalOrder K.order) (s : SheetModel
 
   module _ (sound : SoundSheet s) (keyed : KeyedSheet s) where
     -- every row of the sheet with what is known of it
-    numbered-facts : All (λ (r : Numbered). RowFacts s r.row) (numbered_from 0 s.rows)
+    numbered-facts : AllByRecursion (λ (r : Numbered). RowFacts s r.row) (numbered_from 0 s.rows)
     numbered-facts = all-numbered (RowFacts s) 0 s.rows (keyed-rows s sound keyed)
 
     lasts : (n : ℕ) → ((state_of s.states n).step ≡ false) × ((state_of s.states n).next ≡ false)
@@ -204,28 +204,28 @@ module _ {V : Type 0} (K : ValueKind V) (T : TotalOrder K.order) (s : SheetModel
 
       -- each fired row matches
       rows-match : (F : List (Item V)) (x : Item V)
-          → All (λ (r : Numbered). (g : RowFacts s r.row) × Match e x r.row g) (fired_rows K s F e x)
+          → AllByRecursion (λ (r : Numbered). (g : RowFacts s r.row) × Match e x r.row g) (fired_rows K s F e x)
       unfolding fired_rows
       rows-match F x = go (numbered_from 0 s.rows) numbered-facts
         where
-          go : (rs : List Numbered) → All (λ (r : Numbered). RowFacts s r.row) rs
-              → All (λ (r : Numbered). (g : RowFacts s r.row) × Match e x r.row g) (kept (λ (r : Numbered). row_fires K s e x r.row F) rs)
+          go : (rs : List Numbered) → AllByRecursion (λ (r : Numbered). RowFacts s r.row) rs
+              → AllByRecursion (λ (r : Numbered). (g : RowFacts s r.row) × Match e x r.row g) (kept (λ (r : Numbered). row_fires K s e x r.row F) rs)
           go [] h = tt
           go (r ∷ rs) h = at (row_fires K s e x r.row F) refl (go rs h.1)
             where
               at : (b : Bool) → row_fires K s e x r.row F ≡ b
-                  → All (λ (r : Numbered). (g : RowFacts s r.row) × Match e x r.row g) (kept (λ (r : Numbered). row_fires K s e x r.row F) rs)
-                  → All (λ (r : Numbered). (g : RowFacts s r.row) × Match e x r.row g) (kept (λ (r : Numbered). row_fires K s e x r.row F) (r ∷ rs))
+                  → AllByRecursion (λ (r : Numbered). (g : RowFacts s r.row) × Match e x r.row g) (kept (λ (r : Numbered). row_fires K s e x r.row F) rs)
+                  → AllByRecursion (λ (r : Numbered). (g : RowFacts s r.row) × Match e x r.row g) (kept (λ (r : Numbered). row_fires K s e x r.row F) (r ∷ rs))
               at true i ih = rw i ((h.0, fired-match e x r.row h.0 F i), ih)
               at false i ih = rw i ih
 
       -- no row fires without a key, and none for an item that the key does not read
-      no_rows : (rs : List Numbered) (x : Item V) → All (λ (r : Numbered). (g : RowFacts s r.row) × Match e x r.row g) rs
+      no_rows : (rs : List Numbered) (x : Item V) → AllByRecursion (λ (r : Numbered). (g : RowFacts s r.row) × Match e x r.row g) rs
           → key_of s e ≡ None → rs ≡ []
       no_rows [] x h n = refl
       no_rows (r ∷ rs) x h n = let z : ◌≡◌ {A = ℕ} 0 1 = cc (h.0.1.is_key, n) in absurd (omega arith)
 
-      unread-rows : (rs : List Numbered) (x : Item V) → All (λ (r : Numbered). (g : RowFacts s r.row) × Match e x r.row g) rs
+      unread-rows : (rs : List Numbered) (x : Item V) → AllByRecursion (λ (r : Numbered). (g : RowFacts s r.row) × Match e x r.row g) rs
           → (k : V) → key_of s e ≡ Some k → relevant k x ≡ false → rs ≡ []
       unread-rows [] x h k n u = refl
       unread-rows (r ∷ rs) x h k n u =
@@ -280,25 +280,25 @@ module _ {V : Type 0} (K : ValueKind V) (T : TotalOrder K.order) (s : SheetModel
             ∙ joined-alike (item_faults K s F e) (item_faults K s (kept (relevant k) F) e) (kept (relevant k) F)
             (all-each (λ x. item_faults K s F e x ≡ item_faults K s (kept (relevant k) F) e x) (faults-alike F) (kept (relevant k) F)))
 
-        -- All that it moves is of key k.
+        -- AllByRecursion that it moves is of key k.
 
         entries-key : (x : Item V) (row : Row) (g : RowFacts s row) → Match e x row g
-            → All (OfKey k) (flat_map (entry_moves K s e x row) (present row.entries))
+            → AllByRecursion (OfKey k) (flat_map (entry_moves K s e x row) (present row.entries))
         entries-key x row g m =
             all-joined (OfKey k) (entry_moves K s e x row) (present row.entries)
-            (All-weaker (KeyEntry s g.key) (λ n. All (OfKey k) (entry_moves K s e x row n)) go (present row.entries) g.entries)
+            (All-weaker (KeyEntry s g.key) (λ n. AllByRecursion (OfKey k) (entry_moves K s e x row n)) go (present row.entries) g.entries)
           where
             names : argument_value K s e x row g.key ≡ Some k
             names = m.argument ∙ (sym m.is_key ∙ h)
 
-            go : (n : Entry) → KeyEntry s g.key n → All (OfKey k) (entry_moves K s e x row n)
+            go : (n : Entry) → KeyEntry s g.key n → AllByRecursion (OfKey k) (entry_moves K s e x row n)
             go entry.Ok w = tt
             go entry.Error w = tt
             go (entry.Ask p) w = (entry_key e x row g k names p w, tt)
             go (entry.Strike p) w = (entry_key e x row g k names p w, tt)
 
-        leaving-key : (x : Item V) (rs : List Numbered) → All (λ (r : Numbered). (g : RowFacts s r.row) × Match e x r.row g) rs
-            → All (OfKey k) (leaving s x rs)
+        leaving-key : (x : Item V) (rs : List Numbered) → AllByRecursion (λ (r : Numbered). (g : RowFacts s r.row) × Match e x r.row g) rs
+            → AllByRecursion (OfKey k) (leaving s x rs)
         leaving-key x [] a = rw ((lasts x.name).0, (lasts x.name).1) tt
         leaving-key x (r ∷ rs) a = go (state_of s.states x.name).always refl
           where
@@ -324,19 +324,19 @@ module _ {V : Type 0} (K : ValueKind V) (T : TotalOrder K.order) (s : SheetModel
                     s.states unnamed (keyed-states s keyed) x.name there).0 none)
                     ∙ f))
 
-            go : (b : Bool) → (state_of s.states x.name).always ≡ b → All (OfKey k) (leaving s x (r ∷ rs))
+            go : (b : Bool) → (state_of s.states x.name).always ≡ b → AllByRecursion (OfKey k) (leaving s x (r ∷ rs))
             go true f = rw f tt
             go false f = rw f (has f, tt)
 
-        pub slice-key : (F : List (Item V)) → All (OfKey k) (moves_at K s F e)
+        pub slice-key : (F : List (Item V)) → AllByRecursion (OfKey k) (moves_at K s F e)
         unfolding moves_at item_moves
         slice-key F = go (is_watched s e)
           where
-            go : (b : Bool) → All (OfKey k) (cond b (flat_map (item_moves K s F e) F) [])
+            go : (b : Bool) → AllByRecursion (OfKey k) (cond b (flat_map (item_moves K s F e) F) [])
             go true =
                 all-joined (OfKey k) (item_moves K s F e) F
                 (all-each
-                (λ x. All (OfKey k) (item_moves K s F e x))
+                (λ x. AllByRecursion (OfKey k) (item_moves K s F e x))
                 (λ x.
                 All-append (OfKey k) (leaving s x (fired_rows K s F e x))
                 (flat_map (λ (r : Numbered). row_moves K s e x r.row) (fired_rows K s F e x))
@@ -346,7 +346,7 @@ module _ {V : Type 0} (K : ValueKind V) (T : TotalOrder K.order) (s : SheetModel
                 (fired_rows K s F e x)
                 (All-weaker
                 (λ (r : Numbered). (g : RowFacts s r.row) × Match e x r.row g)
-                (λ (r : Numbered). All (OfKey k) (row_moves K s e x r.row))
+                (λ (r : Numbered). AllByRecursion (OfKey k) (row_moves K s e x r.row))
                 (λ r m. entries-key x r.row m.0 m.1)
                 (fired_rows K s F e x) (rows-match F x))))
                 F)

@@ -1,6 +1,6 @@
 -- Under a keyed sheet the counts do not depend on how the keys were mixed.
 use Rattle.std.proofs.Common.{◌≡◌, ℕ, ◌+◌, Bool, true, false, List, [], ◌∷◌, Some, None, Option, sym, refl, ap, ◌∙◌, ap₂}
-use Rattle.std.specs.List.{AllByRecursion as All}
+use Rattle.std.specs.List.{AllByRecursion}
 use Rattle.values.specs.Order.{TotalOrder}
 use Rattle.records.specs.declared.event.Event.{Event}
 use Rattle.items.specs.Ascending.{kept}
@@ -37,7 +37,7 @@ module _ {V : Type 0} (K : ValueKind V) (T : TotalOrder K.order) (s : SheetModel
   matches-key k (Some j) = refl
 
   module _ (sound : SoundSheet s) (keyed : KeyedSheet s) where
-    free-bill : (F : List (Item V)) (es : List (Event V)) → IsSet K F → All (Free K.order T) (bill F es)
+    free-bill : (F : List (Item V)) (es : List (Event V)) → IsSet K F → AllByRecursion (Free K.order T) (bill F es)
     unfolding bill
     free-bill F [] a = tt
     free-bill F (e ∷ es) a =

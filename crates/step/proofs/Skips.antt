@@ -3,7 +3,7 @@ use Rattle.std.proofs.Common.{◌≡◌, ℕ, ◌+◌, ◌<◌, ◌≤◌, Bool,
 use Rattle.std.proofs.lemmas.List.{get_or_past}
 use Rattle.std.proofs.lemmas.Bool.{and_left, and_parts, and_right, cases_Bool, eqb-true, false≢true, ltb-true}
 use Rattle.std.specs.Ordering.{is_eq, ordering_reverse}
-use Rattle.std.specs.List.{flat_map, AllByRecursion as All}
+use Rattle.std.specs.List.{flat_map, AllByRecursion}
 use Rattle.values.specs.Order.{TotalOrder}
 use Rattle.records.specs.Fields.{field_of}
 use Rattle.records.specs.declared.event.Event.{Event}
@@ -75,21 +75,21 @@ module _ {V : Type 0} (K : ValueKind V) (s : SheetModel V) (e : Event V) (x : It
       (cases_Bool (eqb row.source x.name))
 
 module _ {V : Type 0} (K : ValueKind V) (s : SheetModel V) (e : Event V) (x : Item V) (F : List (Item V)) (f : ℕ) (r : reached K.order x (field_of e f) ≡ false) where
-  rows-block : (n : ℕ) (rows : List Row) → All (Keys x.name e.kind f) rows → kept (λ (p : Numbered). row_fires K s e x p.row F) (numbered_from n rows) ≡ []
+  rows-block : (n : ℕ) (rows : List Row) → AllByRecursion (Keys x.name e.kind f) rows → kept (λ (p : Numbered). row_fires K s e x p.row F) (numbered_from n rows) ≡ []
   rows-block n [] h = refl
   rows-block n (row ∷ rows) h = rw (row-blocks K s e x row F f r h.0) (rows-block (n + 1) rows h.1)
 
-  none-fires : All (Keys x.name e.kind f) s.rows → fired_rows K s F e x ≡ []
+  none-fires : AllByRecursion (Keys x.name e.kind f) s.rows → fired_rows K s F e x ≡ []
   unfolding fired_rows
   none-fires h = rows-block 0 s.rows h
 
 module _ {V : Type 0} (K : ValueKind V) (s : SheetEvent V) (F : List (Item V)) (x : Item V) where
   -- an item whose first value is not in the field that all its rows want is quiet, unless it can lapse
-  pub outside : (f : ℕ) → reached K.order x (field_of (event_in s) f) ≡ false → (name : ℕ) (m : State) → x.name ≡ name → All (Keys name (event_in s).kind f) s.rows.now → m ≡ state_of s.states.now name → m.step ≡ false → m.next ≡ false → Quiet K s F x
+  pub outside : (f : ℕ) → reached K.order x (field_of (event_in s) f) ≡ false → (name : ℕ) (m : State) → x.name ≡ name → AllByRecursion (Keys name (event_in s).kind f) s.rows.now → m ≡ state_of s.states.now name → m.step ≡ false → m.next ≡ false → Quiet K s F x
   outside f r name m n h i p q =
       let same : m ≡ state_of s.states.now x.name = i ∙ ap (state_of s.states.now) (sym n) in
       record {
-        still = none-fires K (sheet_in s) (event_in s) x F f r (subst (λ (k : ℕ). All (Keys k (event_in s).kind f) s.rows.now) (sym n) h);
+        still = none-fires K (sheet_in s) (event_in s) x F f r (subst (λ (k : ℕ). AllByRecursion (Keys k (event_in s).kind f) s.rows.now) (sym n) h);
         stays = ap (λ (z : State). z.step) (sym same) ∙ p;
         rests = ap (λ (z : State). z.next) (sym same) ∙ q;
       }
@@ -101,7 +101,7 @@ module _ {V : Type 0} (K : ValueKind V) (s : SheetEvent V) (F : List (Item V)) (
       ap (λ l. of_item x (is_filled l) ++ flat_map (row_gives of_entry x) l) q.still ∙ ap (λ l. l ++ []) h
 
 -- a sheet's rows are of its states
-source-rows : (states : List State) (n : ℕ) (rows : List Row) (m k : ℕ) → every (sound_row states n) rows ≡ true → length states ≤ m → All (Keys m k 0) rows
+source-rows : (states : List State) (n : ℕ) (rows : List Row) (m k : ℕ) → every (sound_row states n) rows ≡ true → length states ≤ m → AllByRecursion (Keys m k 0) rows
 source-rows states n [] m k h l = tt
 source-rows states n (row ∷ rows) m k h l =
     let b = and_parts (sound_row states n row) _ h in

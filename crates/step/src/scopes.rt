@@ -3,7 +3,7 @@ ghost use Rattle.std.specs.Prelude.{◌≡◌, true, List, IfSome};
 ghost use Rattle.items.specs.declared.item.Item.{Item};
 ghost use Rattle.rules.specs.Kinds.{values_by};
 ghost use Rattle.sheets.specs.declared.tables.Row.{Row};
-ghost use Rattle.std.specs.List.{AllByRecursion as All};
+ghost use Rattle.std.specs.List.{AllByRecursion};
 ghost use Rattle.step.specs.Scopes.{Keys, Quiet, own_cell, own_field, skipped};
 
 use crate::scope::Scope;
@@ -56,7 +56,7 @@ fn agreed_field(field: u8, row: &Row, name: u8, kind: u8) -> Option<u8>
 
 // The field in which all rows of a state and an event kind want own parameter 1, if there is one; 0 where there is no such row.
 fn common_field(rows: &[Row], name: u8, kind: u8) -> Option<u8>
-    ensures { IfSome result (λ f. All (Keys name kind f) rows.now) }
+    ensures { IfSome result (λ f. AllByRecursion (Keys name kind f) rows.now) }
 {
     let mut field = 0;
     for row in rows {

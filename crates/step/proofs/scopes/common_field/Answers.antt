@@ -1,7 +1,7 @@
 use Rattle.std.proofs.Common.{take, subst}
 use Rattle.std.proofs.ByRecursion.{All-more, All-weaker}
 use Rattle.std.proofs.lemmas.List.{take_all}
-use Rattle.std.specs.List.{AllByRecursion as All}
+use Rattle.std.specs.List.{AllByRecursion}
 use Rattle.step.specs.Scopes.{Keys}
 use Rattle.step.proofs.scopes.common_field.Goals as goal
 
@@ -13,4 +13,4 @@ loop-row-preserved c =
     (All-weaker old (Keys c.args.name c.args.kind c.in-Some.agreed) new.1 (take c.loop-row.row-index c.args.rows.now) c.loop-row.invariant) new.0
 
 pub returns : goal.returns
-returns c = subst (All (Keys c.args.name c.args.kind c.loop-row.field)) (take_all c.loop-row.row-index c.args.rows.now c.loop-row-test.false) c.loop-row.invariant
+returns c = subst (AllByRecursion (Keys c.args.name c.args.kind c.loop-row.field)) (take_all c.loop-row.row-index c.args.rows.now c.loop-row-test.false) c.loop-row.invariant
