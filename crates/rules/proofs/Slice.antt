@@ -280,7 +280,7 @@ module _ {V : Type 0} (K : ValueKind V) (T : TotalOrder K.order) (s : SheetModel
             ∙ joined-alike (item_faults K s F e) (item_faults K s (kept (relevant k) F) e) (kept (relevant k) F)
             (all-each (λ x. item_faults K s F e x ≡ item_faults K s (kept (relevant k) F) e x) (faults-alike F) (kept (relevant k) F)))
 
-        -- AllByRecursion that it moves is of key k.
+        -- All that it moves is of key k.
 
         entries-key : (x : Item V) (row : Row) (g : RowFacts s row) → Match e x row g
             → AllByRecursion (OfKey k) (flat_map (entry_moves K s e x row) (present row.entries))
