@@ -34,7 +34,7 @@ pub struct Session<V: Bucketed> {
     ghost right: { SessionRight V.Value.order V.Bucketed.bucket_of V.Value.blank kept } by { SessionRight-prop V.Value.order V.Bucketed.bucket_of V.Value.blank kept },
 }
 
-impl<V: ScriptValue> Session<V> {
+impl<V: ScriptValue + Bucketed> Session<V> {
     // Empty tables, and no book.
     pub fn new(heap: Global) -> Session<V> {
         Session {

@@ -7,7 +7,7 @@ use std::alloc::{AllocError, Global};
 use std::io;
 use std::io::Write;
 use tables::Tables;
-use values::{Number, Reference};
+use values::{Bucketed, Number, Reference};
 
 // The session that a line begins, if it begins one. No command is obeyed before that.
 fn opening(heap: Global, line: &[u8]) -> Result<Option<ValueKind>, Misfit> {
@@ -51,7 +51,7 @@ fn stand<'a, V: Copy>(
 }
 
 // Runs a session under the sheet that stands on some tables.
-fn run_on<V: ScriptValue>(
+fn run_on<V: ScriptValue + Bucketed>(
     rt: &HostRuntime,
     out: &mut Output,
     script: &mut Script,
@@ -65,7 +65,7 @@ fn run_on<V: ScriptValue>(
 }
 
 // Runs a session over one kind of value, and answers which one comes behind it. The sheet stands on a copy of the session's tables, which is kept unchanged until another is loaded.
-fn session<V: ScriptValue>(
+fn session<V: ScriptValue + Bucketed>(
     rt: &HostRuntime,
     out: &mut Output,
     script: &mut Script,

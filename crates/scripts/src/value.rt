@@ -8,13 +8,13 @@ use crate::hexadecimal::{Hex, bytes_of};
 use crate::misfit::Misfit;
 use std::alloc::Global;
 use std::fmt;
-use values::{Bucketed, Number, Reference, Value};
+use values::{Number, Reference, Value};
 
 // The word of the references' filler.
 const FILLER: &str = "-";
 
 // A kind of value that has words.
-pub trait ScriptValue: Bucketed {
+pub trait ScriptValue: Value {
     // What a word means.
     ghost meant: { List ℕ → Result Self Misfit };
 

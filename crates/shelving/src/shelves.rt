@@ -14,7 +14,7 @@ use std::alloc::{AllocError, Global};
 use values::{Bucketed, Value};
 
 // An empty shelf of a make.
-fn empty_shelf<V: ScriptValue>(
+fn empty_shelf<V: ScriptValue + Bucketed>(
     heap: Global,
     make: Make,
     cells: Vec<Item<V>>,
@@ -39,7 +39,7 @@ fn add_all<S: Shelf>(shelf: &mut S, held: &[Item<S::Of>])
 }
 
 // A shelf of a make and so many cells, with some items on it.
-pub fn shelf_of<V: ScriptValue>(
+pub fn shelf_of<V: ScriptValue + Bucketed>(
     heap: Global,
     make: Make,
     cells: usize,

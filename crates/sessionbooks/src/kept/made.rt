@@ -22,7 +22,7 @@ fn make_word(make: Make) -> &'static str {
     }
 }
 
-impl<V: ScriptValue> SessionBooks<V> {
+impl<V: ScriptValue + Bucketed> SessionBooks<V> {
     // No book, and nothing held.
     pub fn new(heap: Global) -> SessionBooks<V>
         ensures { SessionRight V.Value.order V.Bucketed.bucket_of V.Value.blank result }

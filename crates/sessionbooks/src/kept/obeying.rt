@@ -17,7 +17,7 @@ fn file_at(rt: &HostRuntime, path: &str) -> Result<Vec<u8>, Misfit> {
     }
 }
 
-impl<V: ScriptValue> SessionBooks<V> {
+impl<V: ScriptValue + Bucketed> SessionBooks<V> {
     // Hands the book the batch in a file.
     fn deliver(
         &mut self,

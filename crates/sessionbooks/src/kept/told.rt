@@ -8,7 +8,7 @@ use scripts::{Misfit, ScriptValue};
 use std::alloc::Global;
 use values::{Bucketed, Value};
 
-impl<V: ScriptValue> SessionBooks<V> {
+impl<V: ScriptValue + Bucketed> SessionBooks<V> {
     // Lists the open items of the book.
     pub(crate) fn list(&self, heap: Global, out: &mut Output, room: usize) -> Result<(), Fault>
         requires { SessionRight V.Value.order V.Bucketed.bucket_of V.Value.blank self.now }

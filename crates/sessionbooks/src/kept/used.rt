@@ -10,7 +10,7 @@ use sheets::Sheet;
 use std::alloc::Global;
 use values::{Bucketed, Value};
 
-impl<V: ScriptValue> SessionBooks<V> {
+impl<V: ScriptValue + Bucketed> SessionBooks<V> {
     // Opens the book.
     pub(crate) fn open(&mut self, out: &mut Output, sheet: &Sheet<V>) -> Result<(), Fault>
         requires { SessionRight V.Value.order V.Bucketed.bucket_of V.Value.blank self.old }
