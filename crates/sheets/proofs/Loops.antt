@@ -28,7 +28,7 @@ every-passes p n (x ∷ xs) = by (p x) (every-passes p (n + 1) xs)
     by true e = e
     by false e = refl
 
--- `is_none` tells the contrary of `option_is_some`
+-- `is_none` tells the contrary of `is_some`
 pub every-told : {X : Type 0} (p : X → Bool) (xs : List X) (o : Option ℕ) (b : Bool) → o ≡ first_failing p 0 xs → is_some o ≡ not b → b ≡ every p xs
 every-told p xs o true e h = ap not (sym h) ∙ ap (λ k. not (is_some k)) e ∙ every-passes p 0 xs
 every-told p xs o false e h = ap not (sym h) ∙ ap (λ k. not (is_some k)) e ∙ every-passes p 0 xs

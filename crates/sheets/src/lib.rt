@@ -18,7 +18,6 @@ pub mod tables;
 
 pub use each::each_holds;
 pub use fault::LoadError;
-pub use loading::nothing_watched;
 pub use rule::Rule;
 pub use sheet::Sheet;
 pub use tables::{

@@ -20,7 +20,7 @@ const UNWATCHED: EventKind = EventKind {
 };
 
 // What an empty sheet says of each event kind.
-pub fn nothing_watched() -> [EventKind; 64]
+fn nothing_watched() -> [EventKind; 64]
     ensures { result ≡ replicate 64 unwatched }
 {
     [UNWATCHED; 64]
