@@ -1,4 +1,7 @@
 // What the calls of a book answer.
+ghost use Rattle.std.specs.Prelude.{◌≡◌};
+ghost use Rattle.answers.specs.Shown.{compared_text, shown_counts};
+
 use crate::moves::{show_findings, show_items, show_moves};
 use crate::output::Output;
 use crate::refused::show_refusal;
@@ -81,15 +84,24 @@ pub fn show_listed<V: ScriptValue>(
     show_items(out, room, count)
 }
 
+// The seven counts of a name, in the order in which they are shown.
+fn in_order(counts: Counts) -> [u128; 7]
+    ensures { result ≡ shown_counts counts }
+{
+    [
+        counts.started,
+        counts.asked,
+        counts.repeats,
+        counts.fired,
+        counts.lapsed,
+        counts.struck,
+        counts.open,
+    ]
+}
+
 // The seven counts of a name.
 fn show_counts(out: &mut Output, counts: Counts) -> io::Result<()> {
-    let started = counts.started;
-    let asked = counts.asked;
-    let repeats = counts.repeats;
-    let fired = counts.fired;
-    let lapsed = counts.lapsed;
-    let struck = counts.struck;
-    let open = counts.open;
+    let [started, asked, repeats, fired, lapsed, struck, open] = in_order(counts);
     writeln!(
         out,
         "tally {started} {asked} {repeats} {fired} {lapsed} {struck} {open}"
@@ -104,8 +116,15 @@ pub fn show_tally(out: &mut Output, answer: Result<Counts, Refusal>) -> io::Resu
     }
 }
 
-// Whether two books agree.
+// Whether two books agree, in a word.
+fn compared_word(agree: bool) -> &'static str
+    ensures { result.now ≡ compared_text agree }
+{
+    if agree { "agree" } else { "differ" }
+}
+
+// Says whether two books agree.
 pub fn show_compared(out: &mut Output, agree: bool) -> io::Result<()> {
-    let answer = if agree { "agree" } else { "differ" };
+    let answer = compared_word(agree);
     writeln!(out, "books {answer}")
 }

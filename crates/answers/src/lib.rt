@@ -4,6 +4,7 @@
 
 mod calls;
 mod fault;
+mod front;
 mod itemwords;
 mod misfits;
 mod moves;

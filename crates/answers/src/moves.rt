@@ -1,4 +1,8 @@
 // Moves, findings and items, one to a line, indented.
+ghost use Rattle.std.specs.Prelude.{◌≡◌, ◌≤◌, length, take, slice_get, All, IfSome};
+ghost use Rattle.answers.specs.Shown.{IsWritten, cause_text, untouched_item, untouched_name};
+
+use crate::front::front;
 use crate::itemwords::Words;
 use crate::output::Output;
 use items::Item;
@@ -11,7 +15,9 @@ use std::io::Write;
 const UNTOUCHED: u8 = 255;
 
 // The item in every place of a new buffer.
-pub fn untouched<V: ScriptValue>() -> Item<V> {
+pub fn untouched<V: ScriptValue>() -> Item<V>
+    ensures { result ≡ untouched_item V.Value.blank }
+{
     let filler = V::filler();
     Item {
         name: UNTOUCHED,
@@ -22,7 +28,9 @@ pub fn untouched<V: ScriptValue>() -> Item<V> {
 }
 
 // The word of a cause.
-fn cause_word(cause: Cause) -> &'static str {
+fn cause_word(cause: Cause) -> &'static str
+    ensures { result.now ≡ cause_text cause }
+{
     match cause {
         Cause::Fired => "fired",
         Cause::Lapsed => "lapsed",
@@ -38,12 +46,23 @@ fn show_move<V: ScriptValue>(out: &mut Output, change: &Move<V>) -> io::Result<(
     writeln!(out, "  {cause} {item}")
 }
 
+// How many moves stand in front of the first place that was left untouched.
+fn written<V>(moves: &[Move<V>]) -> usize
+    ensures within { result ≤ length moves.now }
+    ensures written { All IsWritten (take result moves.now) }
+    ensures untouched { IfSome (slice_get moves.now result) (λ m. m.item.name ≡ untouched_name) }
+{
+    for (i, change) in moves.iter().enumerate() {
+        if change.item.name == UNTOUCHED {
+            return i;
+        }
+    }
+    moves.len()
+}
+
 // The moves from the front up to the first that was left untouched.
 pub fn show_moves<V: ScriptValue>(out: &mut Output, moves: &[Move<V>]) -> io::Result<()> {
-    for change in moves {
-        if change.item.name == UNTOUCHED {
-            return Ok(());
-        }
+    for change in front(moves, written(moves)) {
         show_move(out, change)?;
     }
     Ok(())
@@ -66,7 +85,7 @@ pub fn show_findings<V: ScriptValue>(
     findings: &[Finding<V>],
     count: usize,
 ) -> io::Result<()> {
-    for finding in findings.get(0..count).unwrap_or(findings) {
+    for finding in front(findings, count) {
         show_finding(out, finding)?;
     }
     Ok(())
@@ -78,7 +97,7 @@ pub fn show_items<V: ScriptValue>(
     room: &[Item<V>],
     count: usize,
 ) -> io::Result<()> {
-    for item in room.get(0..count).unwrap_or(room) {
+    for item in front(room, count) {
         let item = Words { item };
         writeln!(out, "  item {item}")?;
     }

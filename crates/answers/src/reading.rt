@@ -1,5 +1,9 @@
 // What is read of a batch, and what is written of an event.
+ghost use Rattle.std.specs.Prelude.{◌≡◌};
+ghost use Rattle.answers.specs.Shown.{keyed_text};
+
 use crate::fault::Fault;
+use crate::front::front;
 use crate::output::Output;
 use crate::refused::show_refusal;
 use records::{Event, Reader, write};
@@ -8,9 +12,16 @@ use std::alloc::Global;
 use std::io;
 use std::io::Write;
 
+// Whether a sheet is keyed, in a word.
+fn keyed_word(keyed: bool) -> &'static str
+    ensures { result.now ≡ keyed_text keyed }
+{
+    if keyed { "yes" } else { "no" }
+}
+
 // Says whether a sheet is keyed.
 pub fn show_keyed(out: &mut Output, keyed: bool) -> io::Result<()> {
-    let answer = if keyed { "yes" } else { "no" };
+    let answer = keyed_word(keyed);
     writeln!(out, "{answer}")
 }
 
@@ -44,7 +55,7 @@ pub fn show_written<V: ScriptValue>(
     match write(event, buffer.as_mut_slice()) {
         Ok(n) => {
             let bytes = Hex {
-                bytes: buffer.get(0..n).unwrap_or(&[]),
+                bytes: front(buffer.as_slice(), n),
             };
             writeln!(out, "written {bytes}")?;
         }

@@ -1,7 +1,8 @@
 // New shelves.
-ghost use Rattle.std.specs.Prelude.{◌≡◌, IfOk, vec_len};
-ghost use Rattle.anyshelf.specs.Meaning.{AnyRight, any_limit};
+ghost use Rattle.std.specs.Prelude.{◌≡◌, [], IfOk, vec_len};
+ghost use Rattle.anyshelf.specs.Meaning.{AnyRight, any_items, any_limit};
 ghost use Rattle.items.specs.Items.{limit_of};
+ghost use Rattle.shelving.specs.Adding.{added_all};
 
 use crate::buffers::item_room;
 use anyshelf::AnyShelf;
@@ -19,7 +20,7 @@ fn empty_shelf<V: ScriptValue + Bucketed>(
     make: Make,
     cells: Vec<Item<V>>,
 ) -> Result<AnyShelf<V>, AllocError>
-    ensures { IfOk result (λ s. AnyRight V.Value.order V.Bucketed.bucket_of V.Value.blank s × (any_limit s ≡ limit_of (vec_len cells))) }
+    ensures { IfOk result (λ s. AnyRight V.Value.order V.Bucketed.bucket_of V.Value.blank s × (any_items V.Value.blank s ≡ []) × (any_limit s ≡ limit_of (vec_len cells))) }
 {
     match make {
         Make::Sorted => Ok(AnyShelf::Sorted(SortedShelf::new(cells))),
@@ -31,6 +32,7 @@ fn empty_shelf<V: ScriptValue + Bucketed>(
 fn add_all<S: Shelf>(shelf: &mut S, held: &[Item<S::Of>])
     requires { S.Shelf.right shelf.old }
     ensures right { S.Shelf.right shelf.new }
+    ensures items { S.Shelf.items shelf.new ≡ added_all S.Of.Value.order (S.Shelf.limit shelf.old) held.now (S.Shelf.items shelf.old) }
     ensures limit { S.Shelf.limit shelf.new ≡ S.Shelf.limit shelf.old }
 {
     for item in held {
@@ -45,7 +47,7 @@ pub fn shelf_of<V: ScriptValue + Bucketed>(
     cells: usize,
     held: &[Item<V>],
 ) -> Result<AnyShelf<V>, AllocError>
-    ensures { IfOk result (λ s. AnyRight V.Value.order V.Bucketed.bucket_of V.Value.blank s × (any_limit s ≡ limit_of cells)) }
+    ensures { IfOk result (λ s. AnyRight V.Value.order V.Bucketed.bucket_of V.Value.blank s × (any_items V.Value.blank s ≡ added_all V.Value.order (limit_of cells) held.now []) × (any_limit s ≡ limit_of cells)) }
 {
     let mut shelf = empty_shelf(heap, make, item_room(heap, cells)?)?;
     add_all(&mut shelf, held);

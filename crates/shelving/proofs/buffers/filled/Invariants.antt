@@ -1,6 +1,6 @@
-use Rattle.std.proofs.Common.{◌≡◌, vec_len}
+use Rattle.std.proofs.Common.{◌≡◌, replicate}
 use Rattle.shelving.proofs.buffers.filled.Given as goal
 
--- as many as the turns so far
+-- the same in as many places as there were turns
 abbrev pub invariant-loop-done : goal.invariant-loop-done
-invariant-loop-done g l = vec_len l.all ≡ l._done
+invariant-loop-done g l = l.all.items ≡ replicate l._done l.x
