@@ -14,8 +14,9 @@ use Rattle.rules.specs.declared.moves.Cause.TheVariants.{Fired, Lapsed, Asked, S
 use Rattle.rules.specs.declared.moves.Move.{Move}
 use Rattle.rules.specs.declared.tallies.Tally.{Tally}
 use Rattle.step.specs.Sets.{takes_out}
-use Rattle.counting.specs.Counts.{CountsAfter, RoomFor, ask_tally, count_from, counted, gone_tally, is_counted, move_tally, one_if}
-use Rattle.counting.proofs.Counting.{added-asks, added-fired, added-lapsed, added-repeats, added-starts, added-struck, count-more}
+use Rattle.counting.specs.Counts.{CountsAfter, RoomFor, ask_tally, counted, gone_tally, is_counted, move_tally, one_if}
+use Rattle.step.specs.Counts.{count_from}
+use Rattle.step.proofs.Counting.{added-asks, added-fired, added-lapsed, added-repeats, added-starts, added-struck, count-more}
 
 -- each count of a sum
 sum-in : (t more : Tally) (c : Count) → count_in (tally_sum t more) c ≡ count_sum (count_in t c) (count_in more c)

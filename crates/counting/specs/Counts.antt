@@ -10,12 +10,9 @@ use Rattle.rules.specs.declared.moves.Move.{Move}
 use Rattle.rules.specs.Book.{count_in}
 use Rattle.rules.specs.Tallies.{most_counted, no_tally, tally_sum}
 use Rattle.rules.specs.declared.tallies.Tally.{Tally}
+use Rattle.step.specs.Counts.{is_counted as is_part_counted}
 use Rattle.step.specs.Sets.{takes_out}
-
--- how many elements pass a test that also sees those in front
-abbrev pub count_from : {M : Type 0} → (List M → M → Bool) → List M → List M → ℕ
-count_from test front [] = 0
-count_from test front (m ∷ ms) = cond (test front m) 1 0 + count_from test (front ++ m ∷ []) ms
+use Rattle.step.specs.declared.part.Part.TheVariants.{Ask, Repeat, Out}
 
 -- one, or nothing
 abbrev pub one_if : Bool → ℕ
@@ -31,18 +28,14 @@ module _ {V : Type 0} (K : ValueKind V) where
   gone_tally ms x = record { started = 0; asked = 0; repeats = 0; fired = one_if (gone_by K Fired ms x); lapsed = one_if (gone_by K Lapsed ms x); struck = one_if (gone_by K Struck ms x) }
 
   module _ (all : List (Move V)) (F : List (Item V)) where
-    -- an item that leaves for good counts where it is first taken out
-    abbrev pub is_gone : (Item V → Bool) → List (Move V) → Move V → Bool
-    is_gone p front m = takes_out m.cause && (held (item_order K.order) m.item (kept (λ x. not (taken K front x)) F) && (not (moved_by K Asked all m.item) && p m.item))
-
-    -- the move adds one to that count of the name n, with those in front of it and all moves known
+    -- the move adds one to that count of the name n, with those in front of it and all moves known: each count is of a part of the moves
     abbrev pub is_counted : ℕ → Count → List (Move V) → Move V → Bool
-    is_counted n Starts front m = false
-    is_counted n Asks front m = not (takes_out m.cause) && named n m.item
-    is_counted n Repeats front m = not (takes_out m.cause) && (named n m.item && (moved_by K Asked front m.item || held (item_order K.order) m.item F))
-    is_counted n FiredOut front m = is_gone (λ x. named n x && gone_by K Fired all x) front m
-    is_counted n LapsedOut front m = is_gone (λ x. named n x && gone_by K Lapsed all x) front m
-    is_counted n StruckOut front m = is_gone (λ x. named n x && gone_by K Struck all x) front m
+    is_counted n Starts = λ front m. false
+    is_counted n Asks = is_part_counted K all F n Ask
+    is_counted n Repeats = is_part_counted K all F n Repeat
+    is_counted n FiredOut = is_part_counted K all F n (Out Fired)
+    is_counted n LapsedOut = is_part_counted K all F n (Out Lapsed)
+    is_counted n StruckOut = is_part_counted K all F n (Out Struck)
 
     -- an item leaves for good by a move: it was there up to here, and nothing asks for it
     abbrev pub goes : List (Move V) → Move V → Bool

@@ -1,4 +1,4 @@
-mod Counting
+pub mod Counting
 mod Scoped
 pub mod SetSizes
 pub mod SetSteps
