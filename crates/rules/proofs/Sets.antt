@@ -7,6 +7,7 @@ use Rattle.std.proofs.ByRecursion.{All-weaker}
 use Rattle.values.specs.Order.{TotalOrder}
 use Rattle.items.specs.Ascending.{ascends, held, kept, placed}
 use Rattle.items.proofs.Ascending.{held-placed}
+use Rattle.items.proofs.Kept.{all_placed}
 use Rattle.rules.specs.Step.{with_all}
 use Rattle.rules.proofs.Lists.{In, all-kept, counting}
 
@@ -64,15 +65,6 @@ module _ {X : Type 0} {order : X → X → Ordering} (T : TotalOrder order) wher
   held-less x [] h = refl
   held-less x (y ∷ ys) h = rw h.0 (held-less x ys h.1)
 
-  pub all_placed : (P : X → Type 0) (x : X) (ys : List X) → P x → AllByRecursion P ys → AllByRecursion P (placed order x ys)
-  all_placed P x [] p h = (p, tt)
-  all_placed P x (y ∷ ys) p h = go (order x y) refl (all_placed P x ys p h.1)
-    where
-      go : (o : Ordering) → order x y ≡ o → AllByRecursion P (placed order x ys) → AllByRecursion P (placed order x (y ∷ ys))
-      go Less e ih = rw e (p, h)
-      go Equal e ih = rw e h
-      go Greater e ih = rw e (h.0, ih)
-
   pub ascending-placed : (x : X) (ys : List X) → Rising order ys → Rising order (placed order x ys)
   ascending-placed x [] a = (tt, tt)
   ascending-placed x (y ∷ ys) a = go (order x y) refl (ascending-placed x ys a.1)
@@ -80,7 +72,7 @@ module _ {X : Type 0} {order : X → X → Ordering} (T : TotalOrder order) wher
       go : (o : Ordering) → order x y ≡ o → Rising order (placed order x ys) → Rising order (placed order x (y ∷ ys))
       go Less e ih = rw e ((e, all-less x y ys e a.0), a)
       go Equal e ih = rw e a
-      go Greater e ih = rw e (all_placed (λ z. order y z ≡ Less) x ys (flip x y e) a.0, ih)
+      go Greater e ih = rw e (all_placed order (λ z. order y z ≡ Less) x ys (flip x y e) a.0, ih)
 
   pub ascending-together : (F xs : List X) → Rising order F → Rising order (with_all order F xs)
   ascending-together F [] a = a
@@ -88,7 +80,7 @@ module _ {X : Type 0} {order : X → X → Ordering} (T : TotalOrder order) wher
 
   pub all-together : (P : X → Type 0) (F xs : List X) → AllByRecursion P F → AllByRecursion P xs → AllByRecursion P (with_all order F xs)
   all-together P F [] f h = f
-  all-together P F (x ∷ xs) f h = all-together P (placed order x F) xs (all_placed P x F h.0 f) h.1
+  all-together P F (x ∷ xs) f h = all-together P (placed order x F) xs (all_placed order P x F h.0 f) h.1
 
   pub ascending-kept : (p : X → Bool) (F : List X) → Rising order F → Rising order (kept p F)
   ascending-kept p [] a = tt
