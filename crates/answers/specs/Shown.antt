@@ -3,8 +3,7 @@ use Rattle.std.specs.Prelude.{◌≢◌, ℕ, Bool, true, false, List, [], ◌�
 use Rattle.items.specs.declared.item.Item.{Item}
 use Rattle.rules.specs.declared.fault.Fault.TheVariants.{HotAtClose}
 use Rattle.rules.specs.declared.finding.Finding.{Finding}
-use Rattle.rules.specs.declared.moves.Cause.{Cause}
-use Rattle.rules.specs.declared.moves.Cause.TheVariants.{Fired, Lapsed, Asked, Struck}
+use Rattle.rules.specs.declared.moves.Cause.TheVariants.{Fired}
 use Rattle.rules.specs.declared.moves.Move.{Move}
 use Rattle.rules.specs.declared.tallies.Counts.{Counts}
 
@@ -28,13 +27,6 @@ untouched_finding blank = record { event = 0; fault = HotAtClose; item = untouch
 abbrev pub IsWritten : {V : Type 0} → Move V → Type 0
 IsWritten m = m.item.name ≢ untouched_name
 
--- the word of a cause
-abbrev pub cause_text : Cause → List ℕ
-cause_text Fired = codes "fired"
-cause_text Lapsed = codes "lapsed"
-cause_text Asked = codes "asked"
-cause_text Struck = codes "struck"
-
 -- whether a sheet is keyed, in a word
 abbrev pub keyed_text : Bool → List ℕ
 keyed_text true = codes "yes"
@@ -47,4 +39,4 @@ compared_text false = codes "differ"
 
 -- the seven counts of a name, in the order in which they are shown
 abbrev pub shown_counts : Counts → List ℕ
-shown_counts c = c.started ∷ (c.asked ∷ (c.repeats ∷ (c.fired ∷ (c.lapsed ∷ (c.struck ∷ (c.open ∷ []))))))
+shown_counts c = c.kept.started ∷ (c.kept.asked ∷ (c.kept.repeats ∷ (c.kept.fired ∷ (c.kept.lapsed ∷ (c.kept.struck ∷ (c.open ∷ []))))))

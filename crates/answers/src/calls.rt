@@ -89,12 +89,12 @@ fn in_order(counts: Counts) -> [u128; 7]
     ensures { result ≡ shown_counts counts }
 {
     [
-        counts.started,
-        counts.asked,
-        counts.repeats,
-        counts.fired,
-        counts.lapsed,
-        counts.struck,
+        counts.kept.started,
+        counts.kept.asked,
+        counts.kept.repeats,
+        counts.kept.fired,
+        counts.kept.lapsed,
+        counts.kept.struck,
         counts.open,
     ]
 }

@@ -5,7 +5,6 @@
 mod calls;
 mod fault;
 mod front;
-mod itemwords;
 mod misfits;
 mod moves;
 mod output;

@@ -1,12 +1,11 @@
 // Moves, findings and items, one to a line, indented.
-ghost use Rattle.std.specs.Prelude.{◌≡◌, ◌≤◌, length, take, slice_get, All, IfSome};
-ghost use Rattle.answers.specs.Shown.{IsWritten, cause_text, untouched_item, untouched_name};
+ghost use Rattle.std.specs.Prelude.{◌≡◌, ◌==◌, ◌≤◌, length, position, take, slice_get, All, IfSome};
+ghost use Rattle.answers.specs.Shown.{IsWritten, untouched_item, untouched_name};
 
 use crate::front::front;
-use crate::itemwords::Words;
 use crate::output::Output;
 use items::Item;
-use rules::{Cause, Finding, Move};
+use rules::{Finding, Move};
 use scripts::ScriptValue;
 use std::io;
 use std::io::Write;
@@ -27,23 +26,13 @@ pub fn untouched<V: ScriptValue>() -> Item<V>
     }
 }
 
-// The word of a cause.
-fn cause_word(cause: Cause) -> &'static str
-    ensures { result.now ≡ cause_text cause }
+// The first place that was left untouched.
+fn first_untouched<V>(moves: &[Move<V>]) -> Option<usize>
+    ensures { result ≡ position (λ m. m.item.name == untouched_name) moves.now }
 {
-    match cause {
-        Cause::Fired => "fired",
-        Cause::Lapsed => "lapsed",
-        Cause::Asked => "asked",
-        Cause::Struck => "struck",
-    }
-}
-
-// One move.
-fn show_move<V: ScriptValue>(out: &mut Output, change: &Move<V>) -> io::Result<()> {
-    let cause = cause_word(change.cause);
-    let item = Words { item: &change.item };
-    writeln!(out, "  {cause} {item}")
+    moves
+        .iter()
+        .position(|change| change.item.name == UNTOUCHED)
 }
 
 // How many moves stand in front of the first place that was left untouched.
@@ -52,31 +41,15 @@ fn written<V>(moves: &[Move<V>]) -> usize
     ensures written { All IsWritten (take result moves.now) }
     ensures untouched { IfSome (slice_get moves.now result) (λ m. m.item.name ≡ untouched_name) }
 {
-    for (i, change) in moves.iter().enumerate() {
-        if change.item.name == UNTOUCHED {
-            return i;
-        }
-    }
-    moves.len()
+    first_untouched(moves).unwrap_or(moves.len())
 }
 
 // The moves from the front up to the first that was left untouched.
 pub fn show_moves<V: ScriptValue>(out: &mut Output, moves: &[Move<V>]) -> io::Result<()> {
     for change in front(moves, written(moves)) {
-        show_move(out, change)?;
+        writeln!(out, "  {change}")?;
     }
     Ok(())
-}
-
-// One finding: the event's number, the kind of finding, the row and the item.
-fn show_finding<V: ScriptValue>(out: &mut Output, finding: &Finding<V>) -> io::Result<()> {
-    let event = finding.event;
-    let kind = finding.fault.kind();
-    let row = finding.fault.row();
-    let item = Words {
-        item: &finding.item,
-    };
-    writeln!(out, "  finding {event} {kind} {row} {item}")
 }
 
 // The findings at the front, as many as were told.
@@ -86,7 +59,7 @@ pub fn show_findings<V: ScriptValue>(
     count: usize,
 ) -> io::Result<()> {
     for finding in front(findings, count) {
-        show_finding(out, finding)?;
+        writeln!(out, "  finding {finding}")?;
     }
     Ok(())
 }
@@ -98,7 +71,6 @@ pub fn show_items<V: ScriptValue>(
     count: usize,
 ) -> io::Result<()> {
     for item in front(room, count) {
-        let item = Words { item };
         writeln!(out, "  item {item}")?;
     }
     Ok(())

@@ -7,7 +7,7 @@ use crate::front::front;
 use crate::output::Output;
 use crate::refused::show_refusal;
 use records::{Event, Reader, write};
-use scripts::{Hex, Posting, ScriptValue};
+use scripts::{Hex, ScriptValue};
 use std::alloc::Global;
 use std::io;
 use std::io::Write;
@@ -25,23 +25,16 @@ pub fn show_keyed(out: &mut Output, keyed: bool) -> io::Result<()> {
     writeln!(out, "{answer}")
 }
 
-// One record that was read.
-fn show_event<V: ScriptValue>(out: &mut Output, event: &Event<V>) -> io::Result<()> {
-    let posting = Posting { event };
-    writeln!(out, "  event {posting}")
-}
-
-// Reads a batch to its end or its first refusal. A record has two bytes or more, so a turn for each byte, and one for the end, are enough.
+// Reads a batch to its end or its first refusal.
 pub fn show_batch<V: ScriptValue>(out: &mut Output, batch: &[u8]) -> io::Result<()> {
     let mut reader = Reader::new(batch);
-    for _ in 0..=batch.len() {
+    loop {
         match reader.next::<V>() {
-            Ok(Some(event)) => show_event(out, &event)?,
+            Ok(Some(event)) => writeln!(out, "  event {event}")?,
             Ok(None) => return writeln!(out, "end of batch"),
             Err(refusal) => return show_refusal(out, refusal),
         }
     }
-    Ok(())
 }
 
 // Writes a record into a new buffer of that many bytes.

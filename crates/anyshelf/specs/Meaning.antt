@@ -1,24 +1,23 @@
 -- What a shelf of either make means: what the one chosen means.
 use Rattle.std.specs.Prelude.{ℕ, List}
-use Rattle.std.specs.declared.cmp.Ordering.{Ordering}
+use Rattle.std.specs.declared.cmp.Ord as ord
+use Rattle.std.specs.declared.cmp.PartialEq as partial_eq
+use Rattle.std.specs.declared.cmp.PartialOrd as partial_ord
+use Rattle.values.specs.declared.value.Bucketed as bucketed
+use Rattle.values.specs.declared.value.Value as value
 use Rattle.items.specs.declared.item.Item.{Item}
-use Rattle.sorted.specs.Meaning.{sorted_items, sorted_limit, SortedRight}
-use Rattle.indexed.specs.Meaning.{indexed_items, indexed_limit, IndexedRight}
+use Rattle.sorted.specs.Meaning.{sorted_items, sorted_limit}
+use Rattle.indexed.specs.Meaning.{indexed_items, indexed_limit}
 use Rattle.anyshelf.specs.declared.any.AnyShelf.{AnyShelf}
 use Rattle.anyshelf.specs.declared.any.AnyShelf.TheVariants.{Sorted, Indexed}
 
-module _ {V : Type 0} where
+module _ {V : Type 0} {b : bucketed.Ghosts V} {v : value.Ghosts V} {o : ord.Ghosts V} {e : partial_eq.Ghosts V} {p : partial_ord.Ghosts V} where
   -- the items that it holds
-  abbrev pub any_items : V → AnyShelf V → List (Item V)
-  any_items blank (Sorted s) = sorted_items s
-  any_items blank (Indexed s) = indexed_items blank s
+  abbrev pub any_items : AnyShelf V b v o e p → List (Item V)
+  any_items (Sorted s) = sorted_items s
+  any_items (Indexed s) = indexed_items s
 
   -- how many it may hold
-  abbrev pub any_limit : AnyShelf V → ℕ
+  abbrev pub any_limit : AnyShelf V b v o e p → ℕ
   any_limit (Sorted s) = sorted_limit s
   any_limit (Indexed s) = indexed_limit s
-
-  -- it is rightly made
-  abbrev pub AnyRight : (V → V → Ordering) → (V → ℕ) → V → AnyShelf V → Type 0
-  AnyRight order bucket blank (Sorted s) = SortedRight order s
-  AnyRight order bucket blank (Indexed s) = IndexedRight order bucket blank s

@@ -4,7 +4,7 @@ use sorted::SortedShelf;
 use values::Bucketed;
 
 #[derive(Drop)]
-pub enum AnyShelf<V> {
+pub enum AnyShelf<V: Bucketed> {
     Sorted(SortedShelf<V>),
     Indexed(IndexedShelf<V>),
 }

@@ -1,7 +1,7 @@
 // Each call is that of the shelf chosen.
 ghost use Rattle.std.specs.Prelude.{◌≡◌};
 ghost use Rattle.items.specs.Items.{next_of, add_answer, after_add};
-ghost use Rattle.anyshelf.specs.Meaning.{any_items, any_limit, AnyRight};
+ghost use Rattle.anyshelf.specs.Meaning.{any_items, any_limit};
 ghost use Rattle.indexed.specs.ByteNames.{byte-names};
 ghost use Rattle.anyshelf.specs.declared.any.AnyShelf.TheVariants.{Sorted, Indexed};
 ghost use Rattle.std.proofs.Common.{rules};
@@ -13,19 +13,17 @@ use values::Bucketed;
 impl<V: Bucketed> Shelf for AnyShelf<V> {
     type Of = V;
 
-    ghost items = { λ s. any_items V.Value.blank s };
+    ghost items = { λ s. any_items s };
 
     ghost limit = { λ s. any_limit s };
-
-    ghost right = { λ s. AnyRight V.Value.order V.Bucketed.bucket_of V.Value.blank s };
 
     ghost ascending = { Prim.search rules };
 
     ghost bounded = { Prim.search rules };
 
     ghost bytes = { elim [
-      | Sorted s ↦ λ r. s.names
-      | Indexed s ↦ λ r. byte-names V.Value.order V.Bucketed.bucket_of V.Value.blank s r
+      | Sorted s ↦ s.names
+      | Indexed s ↦ byte-names s.sound
     ] };
 
     fn limit(&self) -> usize {
@@ -50,10 +48,8 @@ impl<V: Bucketed> Shelf for AnyShelf<V> {
     }
 
     fn add(&mut self, item: Item<V>) -> Added
-        requires { AnyRight V.Value.order V.Bucketed.bucket_of V.Value.blank self.old }
-        ensures right { AnyRight V.Value.order V.Bucketed.bucket_of V.Value.blank self.new }
-        ensures answer { result ≡ add_answer V.Value.order (any_limit self.old) item (any_items V.Value.blank self.old) }
-        ensures items { any_items V.Value.blank self.new ≡ after_add V.Value.order result item (any_items V.Value.blank self.old) }
+        ensures answer { result ≡ add_answer V.Ord.cmp (any_limit self.old) item (any_items self.old) }
+        ensures items { any_items self.new ≡ after_add V.Ord.cmp result item (any_items self.old) }
         ensures limit { any_limit self.new ≡ any_limit self.old }
     {
         match self {
@@ -70,8 +66,7 @@ impl<V: Bucketed> Shelf for AnyShelf<V> {
     }
 
     fn next(&self, name: u8, first: Option<V>, above: Option<Item<V>>) -> Option<Item<V>>
-        requires { AnyRight V.Value.order V.Bucketed.bucket_of V.Value.blank self.now }
-        ensures { result ≡ next_of V.Value.order name first above (any_items V.Value.blank self.now) }
+        ensures { result ≡ next_of V.Ord.cmp name first above (any_items self.now) }
     {
         match self {
             AnyShelf::Sorted(s) => s.next(name, first, above),

@@ -18,9 +18,7 @@ fn show(rt: &HostRuntime, step: &str, count: usize, start: Instant) -> io::Resul
     println!(rt; "  {step:<22}{count:>8} items {micros:>10} us")
 }
 
-fn measure<S: Shelf<Of = Number>>(rt: &HostRuntime, shelf: &mut S, size: u64) -> io::Result<()>
-    requires { S.Shelf.right shelf.old }
-{
+fn measure<S: Shelf<Of = Number>>(rt: &HostRuntime, shelf: &mut S, size: u64) -> io::Result<()> {
     let start = Instant::now(rt)?;
     show(rt, "add all", add_all(shelf, size), start)?;
     let start = Instant::now(rt)?;

@@ -21,70 +21,32 @@ fn item(i: u64) -> Item<Number> {
 
 // As many cells, to make a shelf over.
 pub fn cells(heap: Global, size: u64) -> Result<Vec<Item<Number>>, AllocError> {
-    let mut all = Vec::new(heap);
-    for _ in 0..size {
-        all.push(item(0))?;
-    }
-    Ok(all)
+    Ok(vec![in heap; item(0); size as usize]?)
 }
 
-pub fn add_all<S: Shelf<Of = Number>>(shelf: &mut S, size: u64) -> usize
-    requires { S.Shelf.right shelf.old }
-    ensures { S.Shelf.right shelf.new }
-{
-    let mut count: usize = 0;
-    for i in 0..size {
-        if let Added::Put = shelf.add(item(i)) {
-            count = count.saturating_add(1);
-        }
-    }
-    count
+pub fn add_all<S: Shelf<Of = Number>>(shelf: &mut S, size: u64) -> usize {
+    (0..size)
+        .filter(|i| shelf.add(item(*i)) == Added::Put)
+        .count()
 }
 
-pub fn holds_all<S: Shelf<Of = Number>>(shelf: &S, size: u64) -> usize
-    requires { S.Shelf.right shelf.now }
-{
-    let mut count: usize = 0;
-    for i in 0..size {
-        if shelf.holds(&item(i)) {
-            count = count.saturating_add(1);
-        }
-    }
-    count
+pub fn holds_all<S: Shelf<Of = Number>>(shelf: &S, size: u64) -> usize {
+    (0..size).filter(|i| shelf.holds(&item(*i))).count()
 }
 
-pub fn next_all<S: Shelf<Of = Number>>(shelf: &S, size: u64) -> usize
-    requires { S.Shelf.right shelf.now }
-{
-    let mut count: usize = 0;
-    for i in 0..size {
-        let x = item(i);
-        if shelf.next(x.name, Some(x.first), None).is_some() {
-            count = count.saturating_add(1);
-        }
-    }
-    count
+pub fn next_all<S: Shelf<Of = Number>>(shelf: &S, size: u64) -> usize {
+    (0..size)
+        .map(item)
+        .filter(|x| shelf.next(x.name, Some(x.first), None).is_some())
+        .count()
 }
 
-pub fn list_all<S: Shelf<Of = Number>>(shelf: &S) -> usize
-    requires { S.Shelf.right shelf.now }
-{
-    let mut count: usize = 0;
-    for name in 0..NAMES {
-        count = count.saturating_add(count_of(shelf, name));
-    }
-    count
+pub fn list_all<S: Shelf<Of = Number>>(shelf: &S) -> usize {
+    (0..NAMES).fold(0, |count: usize, name| {
+        count.saturating_add(count_of(shelf, name))
+    })
 }
 
-pub fn remove_all<S: Shelf<Of = Number>>(shelf: &mut S, size: u64) -> usize
-    requires { S.Shelf.right shelf.old }
-    ensures { S.Shelf.right shelf.new }
-{
-    let mut count: usize = 0;
-    for i in 0..size {
-        if shelf.remove(&item(i)) {
-            count = count.saturating_add(1);
-        }
-    }
-    count
+pub fn remove_all<S: Shelf<Of = Number>>(shelf: &mut S, size: u64) -> usize {
+    (0..size).filter(|i| shelf.remove(&item(*i))).count()
 }

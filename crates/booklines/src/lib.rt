@@ -3,5 +3,7 @@
 #![tactic(auto)]
 
 pub mod bookline;
+pub mod make;
 
-pub use bookline::{BookLine, Make};
+pub use bookline::{BookLine, Rooms};
+pub use make::Make;

@@ -25,7 +25,7 @@ use Rattle.rules.specs.declared.phase.Phase.TheVariants as phase
 use Rattle.rules.specs.declared.phase.PhaseCall.TheVariants as call
 use Rattle.rules.proofs.Likeness.{alike-on, alike_self}
 use Rattle.rules.proofs.Onward.{From, from-record, records-next, so_far_more, told-malformed}
-use Rattle.books.specs.Batches.{SameAs, left_by, left_now}
+use Rattle.books.specs.Batches.{SameAs, ended_by, left_by}
 use Rattle.books.specs.Puts.{Came}
 
 plus : {X : Type 0} (m n : ℕ) (xs : List X) → take m xs ++ take n (drop m xs) ≡ take (m + n) xs
@@ -178,11 +178,11 @@ module _ {V : Type 0} (K : ValueKind V) (s : SheetModel V) where
       go (Some r) p q = let n : ◌≡◌ {A = ℕ} 0 1 = cc in absurd (omega arith)
 
   -- A batch of which so much is done: one record more is put.
-  module _ (b : BookModel V) (pad : List (Move V)) (roll : List (Finding V)) (d : Batched) (unrefused : d.refusal ≡ None) (place : ℕ) (e : Event V)
+  module _ (b : BookModel V) (pad : List (Move V)) (roll : List (Finding V)) (d : Batched) (place : ℕ) (e : Event V)
       (pad' : List (Move V)) (roll' : List (Finding V)) (b' : BookModel V) (front : take d.findings roll' ≡ take d.findings roll) where
     -- and accepted
     pub left-more : (a : Accepted) → Came (put_at K s place b e pad (drop d.findings roll)) (Ok a) pad' (drop d.findings roll') b'
-        → (more : Records V) → SameAs (left_now K s true b' pad' roll' (record { accepted = d.accepted + 1; findings = d.findings + a.findings; refusal = d.refusal }) more) (left_by K s b pad roll d (one place e more))
+        → (more : Records V) → SameAs (left_by K s b' pad' roll' (record { accepted = d.accepted + 1; findings = d.findings + a.findings; refusal = d.refusal }) more) (left_by K s b pad roll d (one place e more))
     left-more a came more =
         let X = batch_from K s b' pad' (drop a.findings (drop d.findings roll')) more in
         let h = further_same more (batch-alike more) (came_to (Ok a) pad' (drop d.findings roll') b') (put_at K s place b e pad (drop d.findings roll)) came in
@@ -197,7 +197,7 @@ module _ {V : Type 0} (K : ValueKind V) (s : SheetModel V) where
 
     -- and refused
     pub left-refused : (r : Refusal) → Came (put_at K s place b e pad (drop d.findings roll)) (Err r) pad' (drop d.findings roll') b'
-        → (more : Records V) → SameAs (left_now K s false b' pad' roll' (record { accepted = d.accepted; findings = d.findings; refusal = Some r }) more) (left_by K s b pad roll d (one place e more))
+        → (more : Records V) → SameAs (ended_by (Err r) b' pad' roll' d) (left_by K s b pad roll d (one place e more))
     left-refused r came more =
         let h = further_same more (batch-alike more) (came_to (Err r) pad' (drop d.findings roll') b') (put_at K s place b e pad (drop d.findings roll)) came in
         let k = same-far d.accepted d.findings (take d.findings roll) _ _ h in
@@ -210,18 +210,18 @@ module _ {V : Type 0} (K : ValueKind V) (s : SheetModel V) where
         whole = sym (ap (λ l. l ++ drop d.findings roll') (sym front) ∙ take-append-drop d.findings roll')
 
   -- A batch of which so much is done ends.
-  module _ (b : BookModel V) (pad : List (Move V)) (roll : List (Finding V)) (d : Batched) (unrefused : d.refusal ≡ None) where
+  module _ (b : BookModel V) (pad : List (Move V)) (roll : List (Finding V)) (d : Batched) where
     whole : roll ≡ take d.findings roll ++ drop d.findings roll
     whole = sym (take-append-drop d.findings roll)
 
     added_none : (o : Option Refusal) → batched d.accepted d.findings o ≡ batched (d.accepted + 0) (d.findings + 0) o
     added_none o = let p : d.accepted ≡ d.accepted + 0 = omega arith in let q : d.findings ≡ d.findings + 0 = omega arith in λ i. batched (p i) (q i) o
 
-    pub left-done : (more : Records V) → SameAs (left_now K s false b pad roll d more) (left_by K s b pad roll d done)
-    left-done more = record { back = ap (λ o. batched d.accepted d.findings o) unrefused ∙ added_none None; pad = refl; roll = whole; book = alike_self b }
+    pub left-done : SameAs (ended_by (Ok tt) b pad roll d) (left_by K s b pad roll d done)
+    left-done = record { back = added_none None; pad = refl; roll = whole; book = alike_self b }
 
-    pub left-stopped : (r : Refusal) (q : ℕ) → r ≡ Malformed q → (more : Records V) → SameAs (left_now K s false b pad roll (record { accepted = d.accepted; findings = d.findings; refusal = Some r }) more) (left_by K s b pad roll d (stop q))
-    left-stopped r q e more = record { back = ap (λ x. batched d.accepted d.findings (Some x)) e ∙ added_none (Some (Malformed q)); pad = refl; roll = whole; book = alike_self b }
+    pub left-stopped : (r : Refusal) (q : ℕ) → r ≡ Malformed q → SameAs (ended_by (Err r) b pad roll d) (left_by K s b pad roll d (stop q))
+    left-stopped r q e = record { back = ap (λ x. batched d.accepted d.findings (Some x)) e ∙ added_none (Some (Malformed q)); pad = refl; roll = whole; book = alike_self b }
 
 -- What a reader tells of the records from its place on.
 module _ {V : Type 0} (reads : List ℕ → Reading V) (bytes : List ℕ) (p : ℕ) where

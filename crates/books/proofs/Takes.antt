@@ -26,7 +26,7 @@ use Rattle.rules.proofs.Likeness.{alike_self}
 use Rattle.counting.specs.Counts.{CountsAfter, RoomFor}
 use Rattle.judging.specs.Judging.{AllFit, early_by, late_by}
 use Rattle.books.specs.Puts.{Came, late_at}
-use Rattle.books.specs.View.{count_most, longest, start_room}
+use Rattle.books.specs.Bounds.{count_most, longest, start_room}
 
 -- no count is larger than the phase and the accepted events can make it
 abbrev pub Most : Phase → ℕ → List Tally → Type 0
@@ -106,7 +106,7 @@ module _ {V : Type 0} (K : ValueKind V) (s : SheetModel V) (place : ℕ) (b : Bo
       second = ap (ltb (length roll)) found ∙ capped-test (length roll) (length (faults_at K s b.items e)) small ∙ ap (ltb (length roll)) (sym as_many)
 
   -- it is refused
-  came_refused : (r : Refusal) → Some r ≡ late_by place (length pad') k (length roll) j b.limit (length (new_set K (take k pad') b.items))
+  pub came_refused : (r : Refusal) → Some r ≡ late_by place (length pad') k (length roll) j b.limit (length (new_set K (take k pad') b.items))
       → Came (late_at K s place b e pad roll) (Err r) pad' roll b
   unfolding filled_pad
   came_refused r h =
@@ -120,7 +120,7 @@ module _ {V : Type 0} (K : ValueKind V) (s : SheetModel V) (place : ℕ) (b : Bo
       })
 
   -- it is taken
-  came-taken : None ≡ late_by place (length pad') k (length roll) j b.limit (length (new_set K (take k pad') b.items))
+  pub came-taken : None ≡ late_by place (length pad') k (length roll) j b.limit (length (new_set K (take k pad') b.items))
       → AllFit (length pad') k (length roll) j b.limit (length (new_set K (take k pad') b.items))
       → (roll' : List (Finding V)) → roll' ≡ fill roll 0 fs → (b' : BookModel V) → Alike b' (took K s e b)
       → Came (late_at K s place b e pad roll) (Ok (record { moves = k; findings = j })) pad' roll' b'
@@ -143,22 +143,6 @@ module _ {V : Type 0} (K : ValueKind V) (s : SheetModel V) (place : ℕ) (b : Bo
 
       same : {m n : ℕ} → k ≡ m → j ≡ n → answer k j ≡ answer m n
       same x y = λ i. answer (x i) (y i)
-
-  -- what settling it came to, by its refusal, if any
-  pub came-settled : (o : Option Refusal) → o ≡ late_by place (length pad') k (length roll) j b.limit (length (new_set K (take k pad') b.items))
-      → (o ≡ None → AllFit (length pad') k (length roll) j b.limit (length (new_set K (take k pad') b.items)))
-      → (r : Result Accepted Refusal) (roll' : List (Finding V)) (b' : BookModel V)
-      → ((x : Refusal) → o ≡ Some x → (r ≡ Err x) × (roll' ≡ roll) × (b' ≡ b))
-      → (o ≡ None → (r ≡ answer k j) × (roll' ≡ fill roll 0 fs) × Alike b' (took K s e b))
-      → Came (late_at K s place b e pad roll) r pad' roll' b'
-  came-settled None h fit r roll' b' refused taken =
-      let t = taken refl in
-      subst (λ x. Came (late_at K s place b e pad roll) x pad' roll' b') (sym t.0) (came-taken h (fit refl) roll' t.1 b' t.2)
-  came-settled (Some x) h fit r roll' b' refused taken =
-      let t = refused x refl in
-      subst (λ y. Came (late_at K s place b e pad roll) y pad' roll' b') (sym t.0)
-      (subst (λ l. Came (late_at K s place b e pad roll) (Err x) pad' l b') (sym t.1)
-      (subst (λ d. Came (late_at K s place b e pad roll) (Err x) pad' roll d) (sym t.2) (came_refused x h)))
 
 -- an event that is not refused at once is not one too many
 pub early-more : (place : ℕ) (p : Phase) (kind n : ℕ) → None ≡ early_by place p kind n → n < 1000000

@@ -1,8 +1,7 @@
-pub mod Asks
 pub mod Batches
+pub mod Bounds
 pub mod Days
 pub mod Ends
 pub mod Opens
 pub mod Puts
-pub mod Takes
 pub mod View

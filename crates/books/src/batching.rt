@@ -1,12 +1,12 @@
 // Putting the records of a batch, one after the other.
 ghost use Rattle.std.specs.Prelude.{◌≡◌, ◌+◌, ◌<◌, ◌≤◌, true, length, take, drop, IfOk, None};
 ghost use Rattle.rules.specs.Book.{Batching, Served, batch_from, put_at};
-ghost use Rattle.rules.specs.Kinds.{values_by};
-ghost use Rattle.rules.specs.Records.{Records, one, records_at};
+ghost use Rattle.rules.specs.Kinds.{value_kind};
+ghost use Rattle.rules.specs.Records.{records_at};
 ghost use Rattle.sheets.specs.View.{view_of};
-ghost use Rattle.books.specs.Batches.{BatchRight, SameAs, left_by, left_now};
+ghost use Rattle.books.specs.Batches.{BatchRight, SameAs, ended_by, left_by};
 ghost use Rattle.books.specs.Puts.{Came};
-ghost use Rattle.books.specs.View.{BookRight, book_view};
+ghost use Rattle.books.specs.View.{book_view};
 
 use crate::book::Book;
 use items::Shelf;
@@ -33,74 +33,34 @@ impl<S: Shelf> Book<S> {
         findings: &mut [Finding<S::Of>],
         from: usize,
     ) -> Result<Accepted, Refusal>
-        requires right { BookRight S.Shelf.right self.old }
         requires within { from ≤ length findings.old }
-        ensures right { BookRight S.Shelf.right self.new }
         ensures front { take from findings.new ≡ take from findings.old }
-        ensures came { Came (put_at (values_by S.Of.Value.order S.Of.Value.blank S.Of.Value.reads) (view_of sheet.now) place (book_view S.Shelf.items S.Shelf.limit self.old) event.now moves.old (drop from findings.old)) result moves.new (drop from findings.new) (book_view S.Shelf.items S.Shelf.limit self.new) }
+        ensures came { Came (put_at (value_kind S.Of.Value) (view_of sheet.now) place (book_view S.Shelf.items S.Shelf.limit self.old) event.now moves.old (drop from findings.old)) result moves.new (drop from findings.new) (book_view S.Shelf.items S.Shelf.limit self.new) }
         ensures fits { IfOk result (λ a. from + a.findings ≤ length findings.old) }
     {
         self.put_at(place, sheet, event, moves, &mut findings[from..])
     }
 
-    // Puts one event of a batch of which so much is done, and answers whether the batch goes on.
-    fn put_event(
-        &mut self,
-        place: usize,
-        sheet: &Sheet<'_, S::Of>,
-        event: &Event<S::Of>,
-        moves: &mut [Move<S::Of>],
-        findings: &mut [Finding<S::Of>],
-        done: &mut Batched,
-    ) -> bool
-        requires right { BookRight S.Shelf.right self.old }
-        requires batch { BatchRight self.old.accepted (length findings.old) done.old }
-        ensures right { BookRight S.Shelf.right self.new }
-        ensures batch { result ≡ true → BatchRight self.new.accepted (length findings.new) done.new }
-        ensures came { (more : Records S.Of) → SameAs (left_now (values_by S.Of.Value.order S.Of.Value.blank S.Of.Value.reads) (view_of sheet.now) result (book_view S.Shelf.items S.Shelf.limit self.new) moves.new findings.new done.new more) (left_by (values_by S.Of.Value.order S.Of.Value.blank S.Of.Value.reads) (view_of sheet.now) (book_view S.Shelf.items S.Shelf.limit self.old) moves.old findings.old done.old (one place event.now more)) }
-    {
-        match self.put_rest(place, sheet, event, moves, findings, done.findings) {
-            Ok(taken) => {
-                done.accepted += 1;
-                done.findings += taken.findings;
-                true
-            }
-            Err(refusal) => {
-                done.refusal = Some(refusal);
-                false
-            }
-        }
-    }
-
-    // Puts the next record of a batch, and answers whether the batch goes on.
-    fn put_next(
+    // Puts the records of a batch of which so much is done, up to its end or to the first refusal.
+    fn put_records(
         &mut self,
         sheet: &Sheet<'_, S::Of>,
         reader: &mut Reader<'_>,
         moves: &mut [Move<S::Of>],
         findings: &mut [Finding<S::Of>],
         done: &mut Batched,
-    ) -> bool
-        requires right { BookRight S.Shelf.right self.old }
-        requires batch { BatchRight self.old.accepted (length findings.old) done.old }
-        ensures right { BookRight S.Shelf.right self.new }
-        ensures batch { result ≡ true → BatchRight self.new.accepted (length findings.new) done.new }
-        ensures bytes { reader.new.bytes ≡ reader.old.bytes }
-        ensures before { result ≡ true → reader.old.place < length reader.old.bytes.now }
-        ensures further { result ≡ true → reader.old.place < reader.new.place }
-        ensures came { SameAs (left_now (values_by S.Of.Value.order S.Of.Value.blank S.Of.Value.reads) (view_of sheet.now) result (book_view S.Shelf.items S.Shelf.limit self.new) moves.new findings.new done.new (records_at S.Of.Value.reads reader.old.bytes.now reader.new.place)) (left_by (values_by S.Of.Value.order S.Of.Value.blank S.Of.Value.reads) (view_of sheet.now) (book_view S.Shelf.items S.Shelf.limit self.old) moves.old findings.old done.old (records_at S.Of.Value.reads reader.old.bytes.now reader.old.place)) }
+    ) -> Result<(), Refusal>
+        requires { BatchRight self.old.accepted (length findings.old) done.old }
+        ensures { SameAs (ended_by result (book_view S.Shelf.items S.Shelf.limit self.new) moves.new findings.new done.new) (left_by (value_kind S.Of.Value) (view_of sheet.now) (book_view S.Shelf.items S.Shelf.limit self.old) moves.old findings.old done.old (records_at S.Of.Value.reads reader.old.bytes.now reader.old.place)) }
     {
-        let place = record_start(reader);
-        match reader.next::<S::Of>() {
-            Ok(found) => match found {
-                Some(event) => self.put_event(place, sheet, &event, moves, findings, done),
-                None => false,
-            },
-            Err(refusal) => {
-                done.refusal = Some(refusal);
-                false
-            }
+        let mut place = record_start(reader);
+        while let Some(event) = reader.next::<S::Of>()? {
+            let taken = self.put_rest(place, sheet, &event, moves, findings, done.findings)?;
+            done.accepted += 1;
+            done.findings += taken.findings;
+            place = record_start(reader);
         }
+        Ok(())
     }
 
     // Puts the records of a batch up to its end or to the first refusal.
@@ -111,9 +71,7 @@ impl<S: Shelf> Book<S> {
         moves: &mut [Move<S::Of>],
         findings: &mut [Finding<S::Of>],
     ) -> Batched
-        requires { BookRight S.Shelf.right self.old }
-        ensures right { BookRight S.Shelf.right self.new }
-        ensures came { Came (batch_from (values_by S.Of.Value.order S.Of.Value.blank S.Of.Value.reads) (view_of sheet.now) (book_view S.Shelf.items S.Shelf.limit self.old) moves.old findings.old (records_at S.Of.Value.reads bytes.now 0)) result moves.new findings.new (book_view S.Shelf.items S.Shelf.limit self.new) }
+        ensures came { Came (batch_from (value_kind S.Of.Value) (view_of sheet.now) (book_view S.Shelf.items S.Shelf.limit self.old) moves.old findings.old (records_at S.Of.Value.reads bytes.now 0)) result moves.new findings.new (book_view S.Shelf.items S.Shelf.limit self.new) }
     {
         let mut reader = Reader::new(bytes);
         let mut done = Batched {
@@ -121,11 +79,11 @@ impl<S: Shelf> Book<S> {
             findings: 0,
             refusal: None,
         };
-        let mut goes_on = true;
-        while goes_on {
-            goes_on = self.put_next(sheet, &mut reader, moves, findings, &mut done);
+        let ended = self.put_records(sheet, &mut reader, moves, findings, &mut done);
+        Batched {
+            refusal: ended.err(),
+            ..done
         }
-        done
     }
 
     // Puts each record of a batch, with the unfilled rest of the findings' buffer, and stops at the first refusal. What earlier records did stays.
@@ -136,9 +94,7 @@ impl<S: Shelf> Book<S> {
         moves: &mut [Move<S::Of>],
         findings: &mut [Finding<S::Of>],
     ) -> Batched
-        requires { BookRight S.Shelf.right self.old }
-        ensures right { BookRight S.Shelf.right self.new }
-        ensures served { Served (values_by S.Of.Value.order S.Of.Value.blank S.Of.Value.reads) (view_of sheet.now) (book_view S.Shelf.items S.Shelf.limit self.old) (Batching bytes.now moves.old moves.new findings.old findings.new result) (book_view S.Shelf.items S.Shelf.limit self.new) }
+        ensures served { Served (value_kind S.Of.Value) (view_of sheet.now) (book_view S.Shelf.items S.Shelf.limit self.old) (Batching bytes.now moves.old moves.new findings.old findings.new result) (book_view S.Shelf.items S.Shelf.limit self.new) }
     {
         let mut phase = self.phase;
         match phase.advance(PhaseCall::Take) {

@@ -1,8 +1,8 @@
 // One whole day of a book.
 ghost use Rattle.sheets.specs.View.{view_of};
-ghost use Rattle.rules.specs.Kinds.{values_by};
+ghost use Rattle.rules.specs.Kinds.{value_kind};
 ghost use Rattle.books.specs.Days.{DayLaw, day_turns};
-ghost use Rattle.books.specs.View.{BookRight, book_view};
+ghost use Rattle.books.specs.View.{book_view};
 
 use crate::book::Book;
 use crate::day::Day;
@@ -19,9 +19,7 @@ pub fn whole_day<S: Shelf>(
     findings: &mut [Finding<S::Of>],
     closing: &mut [Finding<S::Of>],
 ) -> Day<S>
-    requires { S.Shelf.right shelf }
-    ensures right { BookRight S.Shelf.right result.book }
-    ensures law { DayLaw (values_by S.Of.Value.order S.Of.Value.blank S.Of.Value.reads) (view_of sheet.now) (book_view S.Shelf.items S.Shelf.limit) (S.Shelf.items shelf) (S.Shelf.limit shelf) (day_turns bytes.now moves.old moves.new findings.old findings.new closing.old closing.new result.opened result.batched result.ended) result.book }
+    ensures law { DayLaw (value_kind S.Of.Value) (view_of sheet.now) (book_view S.Shelf.items S.Shelf.limit) (S.Shelf.items shelf) (S.Shelf.limit shelf) (day_turns bytes.now moves.old moves.new findings.old findings.new closing.old closing.new result.opened result.batched result.ended) result.book }
 {
     let mut book = Book::new(shelf);
     let opened = book.open(sheet);

@@ -3,19 +3,18 @@ ghost use Rattle.std.specs.Prelude.{◌≡◌, ◌+◌, ◌<◌, ◌≤◌, map,
 ghost use Rattle.firing.specs.At.{event_in, sheet_in};
 ghost use Rattle.buffers.specs.Places.{capped, fill};
 ghost use Rattle.rules.specs.Book.{Alike, findings_at, took};
-ghost use Rattle.rules.specs.Kinds.{values_by};
+ghost use Rattle.rules.specs.Kinds.{value_kind};
 ghost use Rattle.rules.specs.Step.{faults_at, moves_at, numbered_as, set_after};
 ghost use Rattle.refusals.specs.declared.refusal.Refusal.{Refusal};
 ghost use Rattle.books.specs.Puts.{Came, late_at};
-ghost use Rattle.books.specs.Takes.{Ready};
-ghost use Rattle.books.specs.View.{BookRight, book_view};
+ghost use Rattle.books.specs.View.{book_view};
 
 use crate::book::Book;
 use crate::sizes::Sizes;
 use counting::count_moves;
 use firing::SheetEvent;
 use items::Shelf;
-use judging::late_refusal;
+use judging::judge_late;
 use refusals::Refusal;
 use rules::{Accepted, Finding, Move};
 use step::{apply_event, event_findings, event_moves};
@@ -27,8 +26,7 @@ fn count_findings<V: Value, S: Shelf<Of = V>>(
     number: u32,
     shelf: &S,
 ) -> u128
-    requires { S.Shelf.right shelf.now }
-    ensures { result ≡ capped (length (faults_at (values_by V.Value.order V.Value.blank V.Value.reads) (sheet_in at.now) (S.Shelf.items shelf.now) (event_in at.now))) }
+    ensures { result ≡ capped (length (faults_at (value_kind V.Value) (sheet_in at.now) (S.Shelf.items shelf.now) (event_in at.now))) }
 {
     let mut nothing: [Finding<V>; 0] = [];
     event_findings(at, number, shelf, &mut nothing)
@@ -49,10 +47,9 @@ fn survey<V: Value, S: Shelf<Of = V>>(
     shelf: &S,
     moves: &mut [Move<V>],
 ) -> Sizes
-    requires { S.Shelf.right shelf.now }
-    ensures out { moves.new ≡ fill moves.old 0 (moves_at (values_by V.Value.order V.Value.blank V.Value.reads) (sheet_in at.now) (S.Shelf.items shelf.now) (event_in at.now)) }
-    ensures moved { result.moves ≡ capped (length (moves_at (values_by V.Value.order V.Value.blank V.Value.reads) (sheet_in at.now) (S.Shelf.items shelf.now) (event_in at.now))) }
-    ensures found { result.findings ≡ capped (length (faults_at (values_by V.Value.order V.Value.blank V.Value.reads) (sheet_in at.now) (S.Shelf.items shelf.now) (event_in at.now))) }
+    ensures out { moves.new ≡ fill moves.old 0 (moves_at (value_kind V.Value) (sheet_in at.now) (S.Shelf.items shelf.now) (event_in at.now)) }
+    ensures moved { result.moves ≡ capped (length (moves_at (value_kind V.Value) (sheet_in at.now) (S.Shelf.items shelf.now) (event_in at.now))) }
+    ensures found { result.findings ≡ capped (length (faults_at (value_kind V.Value) (sheet_in at.now) (S.Shelf.items shelf.now) (event_in at.now))) }
 {
     Sizes {
         moves: event_moves(at, shelf, moves),
@@ -69,14 +66,12 @@ fn write_and_apply<V: Value, S: Shelf<Of = V>>(
     count: usize,
     findings: &mut [Finding<V>],
 )
-    requires right { S.Shelf.right shelf.old }
     requires within { count ≤ length buffer.now }
-    requires moves { take count buffer.now ≡ moves_at (values_by V.Value.order V.Value.blank V.Value.reads) (sheet_in at.now) (S.Shelf.items shelf.old) (event_in at.now) }
-    requires room { length (set_after (values_by V.Value.order V.Value.blank V.Value.reads) (sheet_in at.now) (S.Shelf.items shelf.old) (event_in at.now)) ≤ S.Shelf.limit shelf.old }
-    ensures right { S.Shelf.right shelf.new }
+    requires moves { take count buffer.now ≡ moves_at (value_kind V.Value) (sheet_in at.now) (S.Shelf.items shelf.old) (event_in at.now) }
+    requires room { length (set_after (value_kind V.Value) (sheet_in at.now) (S.Shelf.items shelf.old) (event_in at.now)) ≤ S.Shelf.limit shelf.old }
     ensures limit { S.Shelf.limit shelf.new ≡ S.Shelf.limit shelf.old }
-    ensures items { S.Shelf.items shelf.new ≡ set_after (values_by V.Value.order V.Value.blank V.Value.reads) (sheet_in at.now) (S.Shelf.items shelf.old) (event_in at.now) }
-    ensures findings { findings.new ≡ fill findings.old 0 (map (numbered_as number) (faults_at (values_by V.Value.order V.Value.blank V.Value.reads) (sheet_in at.now) (S.Shelf.items shelf.old) (event_in at.now))) }
+    ensures items { S.Shelf.items shelf.new ≡ set_after (value_kind V.Value) (sheet_in at.now) (S.Shelf.items shelf.old) (event_in at.now) }
+    ensures findings { findings.new ≡ fill findings.old 0 (map (numbered_as number) (faults_at (value_kind V.Value) (sheet_in at.now) (S.Shelf.items shelf.old) (event_in at.now))) }
 {
     event_findings(at, number, shelf, findings);
     apply_event(at, shelf, buffer, count);
@@ -91,47 +86,17 @@ impl<S: Shelf> Book<S> {
         count: usize,
         findings: &mut [Finding<S::Of>],
     )
-        requires right { BookRight S.Shelf.right self.old }
         requires more { self.old.accepted < 1000000 }
         requires within { count ≤ length buffer.now }
-        requires moves { take count buffer.now ≡ moves_at (values_by S.Of.Value.order S.Of.Value.blank S.Of.Value.reads) (sheet_in at.now) (S.Shelf.items self.old.shelf) (event_in at.now) }
-        requires room { length (set_after (values_by S.Of.Value.order S.Of.Value.blank S.Of.Value.reads) (sheet_in at.now) (S.Shelf.items self.old.shelf) (event_in at.now)) ≤ S.Shelf.limit self.old.shelf }
-        ensures right { BookRight S.Shelf.right self.new }
-        ensures book { Alike (book_view S.Shelf.items S.Shelf.limit self.new) (took (values_by S.Of.Value.order S.Of.Value.blank S.Of.Value.reads) (sheet_in at.now) (event_in at.now) (book_view S.Shelf.items S.Shelf.limit self.old)) }
-        ensures findings { findings.new ≡ fill findings.old 0 (findings_at (values_by S.Of.Value.order S.Of.Value.blank S.Of.Value.reads) (sheet_in at.now) (self.old.accepted + 1) (S.Shelf.items self.old.shelf) (event_in at.now)) }
+        requires moves { take count buffer.now ≡ moves_at (value_kind S.Of.Value) (sheet_in at.now) (S.Shelf.items self.old.shelf) (event_in at.now) }
+        requires room { length (set_after (value_kind S.Of.Value) (sheet_in at.now) (S.Shelf.items self.old.shelf) (event_in at.now)) ≤ S.Shelf.limit self.old.shelf }
+        ensures book { Alike (book_view S.Shelf.items S.Shelf.limit self.new) (took (value_kind S.Of.Value) (sheet_in at.now) (event_in at.now) (book_view S.Shelf.items S.Shelf.limit self.old)) }
+        ensures findings { findings.new ≡ fill findings.old 0 (findings_at (value_kind S.Of.Value) (sheet_in at.now) (self.old.accepted + 1) (S.Shelf.items self.old.shelf) (event_in at.now)) }
     {
         let number = next_number(self.accepted);
         count_moves(&mut self.tallies, &self.shelf, &buffer[0..count]);
         write_and_apply(at, number, &mut self.shelf, buffer, count, findings);
         self.accepted = number;
-    }
-
-    // Takes the event, unless it is refused; a refusal changes nothing.
-    fn settle(
-        &mut self,
-        refusal: Option<Refusal>,
-        at: &SheetEvent<'_, '_, S::Of>,
-        buffer: &[Move<S::Of>],
-        sizes: Sizes,
-        findings: &mut [Finding<S::Of>],
-    ) -> Result<Accepted, Refusal>
-        requires right { BookRight S.Shelf.right self.old }
-        requires more { self.old.accepted < 1000000 }
-        requires fits { refusal ≡ None → Ready (values_by S.Of.Value.order S.Of.Value.blank S.Of.Value.reads) (sheet_in at.now) (event_in at.now) (S.Shelf.items self.old.shelf) (S.Shelf.limit self.old.shelf) buffer.now (length findings.old) sizes }
-        ensures right { BookRight S.Shelf.right self.new }
-        ensures refused { (x : Refusal) → refusal ≡ Some x → (result ≡ Err x) × (findings.new ≡ findings.old) × (self.new ≡ self.old) }
-        ensures taken { refusal ≡ None → (result ≡ Ok (record { moves = sizes.moves; findings = sizes.findings })) × (findings.new ≡ fill findings.old 0 (findings_at (values_by S.Of.Value.order S.Of.Value.blank S.Of.Value.reads) (sheet_in at.now) (self.old.accepted + 1) (S.Shelf.items self.old.shelf) (event_in at.now))) × Alike (book_view S.Shelf.items S.Shelf.limit self.new) (took (values_by S.Of.Value.order S.Of.Value.blank S.Of.Value.reads) (sheet_in at.now) (event_in at.now) (book_view S.Shelf.items S.Shelf.limit self.old)) }
-    {
-        match refusal {
-            Some(refusal) => Err(refusal),
-            None => {
-                self.accept(at, buffer, sizes.moves as usize, findings);
-                Ok(Accepted {
-                    moves: sizes.moves as usize,
-                    findings: sizes.findings as usize,
-                })
-            }
-        }
     }
 
     // Takes an event that is not refused at once; its record stands at that place.
@@ -142,20 +107,22 @@ impl<S: Shelf> Book<S> {
         moves: &mut [Move<S::Of>],
         findings: &mut [Finding<S::Of>],
     ) -> Result<Accepted, Refusal>
-        requires right { BookRight S.Shelf.right self.old }
         requires more { self.old.accepted < 1000000 }
-        ensures right { BookRight S.Shelf.right self.new }
-        ensures came { Came (late_at (values_by S.Of.Value.order S.Of.Value.blank S.Of.Value.reads) (sheet_in at.now) place (book_view S.Shelf.items S.Shelf.limit self.old) (event_in at.now) moves.old findings.old) result moves.new findings.new (book_view S.Shelf.items S.Shelf.limit self.new) }
+        ensures came { Came (late_at (value_kind S.Of.Value) (sheet_in at.now) place (book_view S.Shelf.items S.Shelf.limit self.old) (event_in at.now) moves.old findings.old) result moves.new findings.new (book_view S.Shelf.items S.Shelf.limit self.new) }
     {
         let sizes = survey(at, self.accepted + 1, &self.shelf, moves);
-        let refusal = late_refusal(
+        judge_late(
             &self.shelf,
             place,
             moves,
             sizes.moves,
             findings.len(),
             sizes.findings,
-        );
-        self.settle(refusal, at, moves, sizes, findings)
+        )?;
+        self.accept(at, moves, sizes.moves as usize, findings);
+        Ok(Accepted {
+            moves: sizes.moves as usize,
+            findings: sizes.findings as usize,
+        })
     }
 }

@@ -4,15 +4,12 @@ use Rattle.std.specs.Str.{bytes_eq}
 use Rattle.scripts.specs.Decimals.{number_in, room_in}
 use Rattle.wordcounts.specs.Counts.{no_words, only_byte, only_word}
 use Rattle.scripts.specs.declared.misfit.Misfit.{Misfit}
-use Rattle.scripts.specs.declared.misfit.Misfit.TheVariants.{MissingWord, NotACommand, NotAShelf, TooManyWords}
-use Rattle.booklines.specs.declared.bookline.Make.{Make}
-use Rattle.booklines.specs.declared.bookline.Make.TheVariants.{Sorted, Indexed}
+use Rattle.scripts.specs.declared.misfit.Misfit.TheVariants.{MissingWord, NotACommand, TooManyWords}
+use Rattle.booklines.specs.Makes.{make_in}
+use Rattle.booklines.specs.declared.make.Make.{Make}
+use Rattle.booklines.specs.declared.bookline.Rooms.{Rooms}
 use Rattle.booklines.specs.declared.bookline.BookLine.{BookLine}
 use Rattle.booklines.specs.declared.bookline.BookLine.TheVariants as line
-
--- the make that a word names
-abbrev pub make_in : List ℕ → Result Make Misfit
-make_in word = cond (bytes_eq word (codes "sorted")) (Ok Sorted) (cond (bytes_eq word (codes "indexed")) (Ok Indexed) (Err NotAShelf))
 
 -- the first word of a line with an item or with events
 abbrev pub is_long : List ℕ → Bool
@@ -26,6 +23,12 @@ is_short word = bytes_eq word (codes "book") || (bytes_eq word (codes "open") ||
 abbrev pub only_room : Result (List ℕ) Misfit → Result ℕ Misfit
 only_room (Ok word) = room_in (number_in word)
 only_room (Err e) = Err e
+
+-- the places of the two buffers
+abbrev pub rooms_in : Result ℕ Misfit → Result ℕ Misfit → Result Rooms Misfit
+rooms_in (Ok m) (Ok n) = Ok (record { moves = m; findings = n })
+rooms_in (Ok m) (Err e) = Err e
+rooms_in (Err e) n = Err e
 
 module _ {V : Type 0} where
   -- a book of a make and a number of cells

@@ -7,4 +7,4 @@ mod counted;
 mod events;
 mod makes;
 
-pub use bookline::{book_line, is_book_word};
+pub use bookline::book_line;

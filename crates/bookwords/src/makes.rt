@@ -2,30 +2,20 @@
 ghost use Rattle.std.specs.Prelude.{◌≡◌, IfOk, Ok};
 ghost use Rattle.scripts.specs.Decimals.{byte_in, number_in, room_in};
 ghost use Rattle.scripts.specs.Lines.{texts};
-ghost use Rattle.bookwords.specs.BookLines.{book_in, book_words, make_in};
+ghost use Rattle.booklines.specs.Makes.{make_in};
+ghost use Rattle.bookwords.specs.BookLines.{book_in, book_words};
 
 use booklines::{BookLine, Make};
 use items::Item;
 use scripts::{Misfit, ScriptValue, byte, room};
 use std::alloc::Global;
 
-// The make that a word names.
-fn make_of(word: &str) -> Result<Make, Misfit>
-    ensures { result ≡ make_in word.now }
-{
-    match word {
-        "sorted" => Ok(Make::Sorted),
-        "indexed" => Ok(Make::Indexed),
-        _ => Err(Misfit::NotAShelf),
-    }
-}
-
 // A book of a make and a number of cells.
 fn book_of<V: Copy>(make: &str, cells: &str) -> Result<BookLine<V>, Misfit>
     ensures { result ≡ book_in (make_in make.now) (room_in (number_in cells.now)) }
 {
     Ok(BookLine::Book {
-        make: make_of(make)?,
+        make: Make::try_from(make)?,
         cells: room(cells)?,
     })
 }

@@ -1,44 +1,27 @@
 // The words of a line as a command.
-ghost use Rattle.std.specs.Prelude.{◌≡◌, true};
+ghost use Rattle.std.specs.Prelude.{◌≡◌, true, Some, None, if◌then◌else◌};
 ghost use Rattle.scripts.specs.Lines.{texts};
 ghost use Rattle.wordcounts.specs.Counts.{no_words};
 ghost use Rattle.commands.specs.Commands.{bare_in, is_plain, is_plain_line, plain_line, plain_of};
 
 use crate::command::Command;
-use bookwords::{book_line, is_book_word};
+use bookwords::book_line;
 use scripts::{Misfit, ScriptValue, bytes_of, event_of, room};
 use std::alloc::Global;
 use tablelines::TableLine;
 use tablewords::table_line;
 use wordcounts::{no_words, only_word};
 
-// Whether a word is a command that takes no other.
-fn is_plain(word: &str) -> bool
-    ensures { result ≡ is_plain word.now }
+// The command of one word, if the word is one.
+fn plain<V: Copy>(word: &str) -> Option<Command<V>>
+    ensures { result ≡ (if is_plain word.now then Some (plain_of word.now) else None) }
 {
     match word {
-        "load" | "keyed" | "clear" => true,
-        _ => false,
+        "load" => Some(Command::Load),
+        "keyed" => Some(Command::Keyed),
+        "clear" => Some(Command::Table(TableLine::Clear)),
+        _ => None,
     }
-}
-
-// The command of one word.
-fn plain<V: Copy>(word: &str) -> Command<V>
-    ensures { result ≡ plain_of word.now }
-{
-    match word {
-        "load" => Command::Load,
-        "keyed" => Command::Keyed,
-        _ => Command::Table(TableLine::Clear),
-    }
-}
-
-// The command of one word, where no other stands behind it.
-fn bare<V: Copy>(word: &str, rest: &[&str]) -> Result<Command<V>, Misfit>
-    ensures { result ≡ bare_in (plain_of word.now) (no_words (texts rest.now)) }
-{
-    no_words(rest)?;
-    Ok(plain(word))
 }
 
 // `read HEX`; `read` alone reads the empty batch.
@@ -66,8 +49,8 @@ fn write<V: ScriptValue>(heap: Global, words: &[&str]) -> Result<Command<V>, Mis
 
 // A command that takes words, by its first word and those behind it.
 fn other<V: ScriptValue>(heap: Global, word: &str, rest: &[&str]) -> Result<Command<V>, Misfit> {
-    if is_book_word(word) {
-        return Ok(Command::OnBook(book_line(heap, word, rest)?));
+    if let Some(line) = book_line(heap, word, rest) {
+        return Ok(Command::OnBook(line?));
     }
     match word {
         "read" => read(heap, rest),
@@ -80,10 +63,12 @@ fn other<V: ScriptValue>(heap: Global, word: &str, rest: &[&str]) -> Result<Comm
 fn headed<V: ScriptValue>(heap: Global, word: &str, rest: &[&str]) -> Result<Command<V>, Misfit>
     ensures { is_plain word.now ≡ true → result ≡ bare_in (plain_of word.now) (no_words (texts rest.now)) }
 {
-    if is_plain(word) {
-        bare(word, rest)
-    } else {
-        other(heap, word, rest)
+    match plain(word) {
+        Some(command) => {
+            no_words(rest)?;
+            Ok(command)
+        }
+        None => other(heap, word, rest),
     }
 }
 

@@ -1,7 +1,7 @@
 -- What is counted move by move.
-use Rattle.std.specs.Prelude.{◌≡◌, ℕ, ◌+◌, ◌<◌, ◌≤◌, Bool, false, cond, not, ◌&&◌, ◌||◌, List, [], ◌∷◌, ◌++◌, length, slice_index_or, slice_set}
+use Rattle.std.specs.Prelude.{◌≡◌, ℕ, ◌+◌, ◌<◌, ◌≤◌, Bool, false, cond, not, ◌&&◌, ◌||◌, List, length, slice_index_or, slice_set}
 use Rattle.items.specs.Ascending.{held, kept}
-use Rattle.items.specs.Items.{item_order, named}
+use Rattle.items.specs.Items.{item_order}
 use Rattle.items.specs.declared.item.Item.{Item}
 use Rattle.rules.specs.Kinds.{ValueKind}
 use Rattle.rules.specs.Step.{Count, Starts, Asks, Repeats, FiredOut, LapsedOut, StruckOut, count_added, gone_by, moved_by, taken}

@@ -2,51 +2,39 @@
 ghost use Rattle.std.specs.Prelude.{◌≡◌, ◌||◌, length};
 ghost use Rattle.items.specs.Ascending.{held};
 ghost use Rattle.items.specs.Items.{item_order};
-ghost use Rattle.rules.specs.Kinds.{values_by};
+ghost use Rattle.rules.specs.Kinds.{value_kind};
 ghost use Rattle.rules.specs.Step.{moved_by};
 ghost use Rattle.rules.specs.declared.moves.Cause.TheVariants.{Asked};
-ghost use Rattle.counting.specs.Counts.{CountsAfter, RoomFor, ask_tally, counted, goes, gone_tally, move_tally, one_if};
+ghost use Rattle.counting.specs.Counts.{CountsAfter, RoomFor, ask_tally, counted, goes, gone_tally, move_tally};
 
 use items::{Item, Shelf};
 use rules::{Cause, Move, Tally};
 use step::{is_left, is_moved, takes_out};
 use values::Value;
 
-// One if the test holds, and nothing otherwise.
-fn one_if(test: bool) -> u128
-    ensures { result ≡ one_if test }
-{
-    if test { 1 } else { 0 }
-}
-
 // What an ask counts: it may be a repeated one.
 fn ask_tally(again: bool) -> Tally
     ensures { result ≡ ask_tally again }
 {
     Tally {
-        started: 0,
         asked: 1,
-        repeats: one_if(again),
-        fired: 0,
-        lapsed: 0,
-        struck: 0,
+        repeats: u128::from(again),
+        ..Tally::default()
     }
 }
 
 // What an item that is gone counts: it is gone by the first cause that applies.
 fn gone_tally<V: Value>(item: &Item<V>, moves: &[Move<V>]) -> Tally
-    ensures { result ≡ gone_tally (values_by V.Value.order V.Value.blank V.Value.reads) moves.now item.now }
+    ensures { result ≡ gone_tally (value_kind V.Value) moves.now item.now }
 {
     let fired = is_moved(Cause::Fired, item, moves);
     let lapsed = is_moved(Cause::Lapsed, item, moves);
     let struck = is_moved(Cause::Struck, item, moves);
     Tally {
-        started: 0,
-        asked: 0,
-        repeats: 0,
-        fired: one_if(fired),
-        lapsed: one_if(!fired && lapsed),
-        struck: one_if(!fired && !lapsed && struck),
+        fired: u128::from(fired),
+        lapsed: u128::from(!fired && lapsed),
+        struck: u128::from(!fired && !lapsed && struck),
+        ..Tally::default()
     }
 }
 
@@ -57,16 +45,14 @@ fn is_going<V: Value, S: Shelf<Of = V>>(
     front: &[Move<V>],
     change: &Move<V>,
 ) -> bool
-    requires { S.Shelf.right shelf.now }
-    ensures { result ≡ goes (values_by V.Value.order V.Value.blank V.Value.reads) moves.now (S.Shelf.items shelf.now) front.now change.now }
+    ensures { result ≡ goes (value_kind V.Value) moves.now (S.Shelf.items shelf.now) front.now change.now }
 {
     is_left(shelf, front, &change.item) && !is_moved(Cause::Asked, &change.item, moves)
 }
 
 // Whether the item of an ask was there before the event, or was asked for in front.
 fn is_repeated<V: Value, S: Shelf<Of = V>>(shelf: &S, front: &[Move<V>], item: &Item<V>) -> bool
-    requires { S.Shelf.right shelf.now }
-    ensures { result ≡ (moved_by (values_by V.Value.order V.Value.blank V.Value.reads) Asked front.now item.now || held (item_order V.Value.order) item.now (S.Shelf.items shelf.now)) }
+    ensures { result ≡ (moved_by (value_kind V.Value) Asked front.now item.now || held (item_order V.Ord.cmp) item.now (S.Shelf.items shelf.now)) }
 {
     is_moved(Cause::Asked, item, front) || shelf.holds(item)
 }
@@ -78,15 +64,14 @@ fn move_tally<V: Value, S: Shelf<Of = V>>(
     front: &[Move<V>],
     change: &Move<V>,
 ) -> Tally
-    requires { S.Shelf.right shelf.now }
-    ensures { result ≡ move_tally (values_by V.Value.order V.Value.blank V.Value.reads) moves.now (S.Shelf.items shelf.now) front.now change.now }
+    ensures { result ≡ move_tally (value_kind V.Value) moves.now (S.Shelf.items shelf.now) front.now change.now }
 {
     if !takes_out(change.cause) {
         ask_tally(is_repeated(shelf, front, &change.item))
     } else if is_going(shelf, moves, front, change) {
         gone_tally(&change.item, moves)
     } else {
-        Tally::none()
+        Tally::default()
     }
 }
 
@@ -105,9 +90,8 @@ pub fn count_moves<V: Value, S: Shelf<Of = V>>(
     shelf: &S,
     moves: &[Move<V>],
 )
-    requires right { S.Shelf.right shelf.now }
     requires room { RoomFor (length moves.now) tallies.old }
-    ensures { CountsAfter (values_by V.Value.order V.Value.blank V.Value.reads) moves.now (S.Shelf.items shelf.now) tallies.old tallies.new }
+    ensures { CountsAfter (value_kind V.Value) moves.now (S.Shelf.items shelf.now) tallies.old tallies.new }
 {
     for (i, change) in moves.iter().enumerate() {
         let more = move_tally(shelf, moves, &moves[0..i], change);

@@ -1,8 +1,8 @@
 -- The rows of a sheet one by one, with their numbers: those that fire.
-use Rattle.std.proofs.Common.{◌≡◌, ℕ, ◌+◌, ◌<◌, ◌≤◌, Bool, true, false, cond, ◌||◌, leb, List, [], ◌∷◌, ◌++◌, length, get_or, drop, Some, None, Option, sym, refl, ap, ◌∙◌, ⊎_elim, leb-true}
-use Rattle.std.proofs.lemmas.List.{at_drop_all, drop_more}
+use Rattle.std.proofs.Common.{◌≡◌, ℕ, ◌+◌, ◌<◌, ◌≤◌, Bool, true, false, cond, leb, List, [], ◌∷◌, ◌++◌, length, get_or, drop, Some, None, Option, refl, ap, ◌∙◌, ⊎_elim, leb-true}
+use Rattle.std.proofs.lemmas.List.{drop_more}
 use Rattle.std.proofs.lemmas.Bool.{and_parts, cases_Bool}
-use Rattle.std.specs.List.{flat_map}
+use Rattle.std.specs.List.{flat_map, list_any}
 use Rattle.records.specs.declared.event.Event.{Event}
 use Rattle.items.specs.Ascending.{kept}
 use Rattle.items.specs.declared.item.Item.{Item}
@@ -36,9 +36,6 @@ module _ {A : Type 0} (p : A → Bool) where
   joined-kept : {X : Type 0} (f : A → List X) (a : A) (more : List A) → flat_map f (kept p (a ∷ more)) ≡ cond (p a) (f a) [] ++ flat_map f (kept p more)
   joined-kept f a more = ⊎_elim (λ (e : p a ≡ true). rw e refl) (λ (e : p a ≡ false). rw e refl) (cases_Bool (p a))
 
-  filled-kept : (a : A) (more : List A) → is_filled (kept p (a ∷ more)) ≡ (p a || is_filled (kept p more))
-  filled-kept a more = ⊎_elim (λ (e : p a ≡ true). rw e refl) (λ (e : p a ≡ false). rw e refl) (cases_Bool (p a))
-
 module _ {V : Type 0} (K : ValueKind V) (s : SheetModel V) (e : Event V) (x : Item V) (F : List (Item V)) where
   -- the row fires for the item
   abbrev pub fires_for : Numbered → Bool
@@ -52,9 +49,6 @@ module _ {V : Type 0} (K : ValueKind V) (s : SheetModel V) (e : Event V) (x : It
   unfolding fired_rows
   fired-start = refl
 
-  pub fired-end : (i : ℕ) → length s.rows ≤ i → fired_from i ≡ []
-  fired-end i h = at_drop_all (λ l. kept fires_for (numbered_from i l)) s.rows i h
-
   module _ (i : ℕ) (d : Row) (h : i < length s.rows) where
     step : fired_from i ≡ kept fires_for (numbered i (get_or s.rows i d) ∷ numbered_from (i + 1) (drop (i + 1) s.rows))
     step = ap (λ l. kept fires_for (numbered_from i l)) (drop_more s.rows i d h)
@@ -62,12 +56,13 @@ module _ {V : Type 0} (K : ValueKind V) (s : SheetModel V) (e : Event V) (x : It
     pub fired-more : {X : Type 0} (f : Numbered → List X) → flat_map f (fired_from i) ≡ cond (fires_for (numbered i (get_or s.rows i d))) (f (numbered i (get_or s.rows i d))) [] ++ flat_map f (fired_from (i + 1))
     fired-more f = ap (flat_map f) step ∙ joined-kept fires_for f (numbered i (get_or s.rows i d)) (numbered_from (i + 1) (drop (i + 1) s.rows))
 
-    some_more : is_filled (fired_from i) ≡ (row_fires K s e x (get_or s.rows i d) F || is_filled (fired_from (i + 1)))
-    some_more = ap is_filled step ∙ filled-kept fires_for (numbered i (get_or s.rows i d)) (numbered_from (i + 1) (drop (i + 1) s.rows))
+  any-from : (n : ℕ) (rows : List Row) → list_any (λ (r : Row). row_fires K s e x r F) rows ≡ is_filled (kept fires_for (numbered_from n rows))
+  any-from n [] = refl
+  any-from n (r ∷ rs) =
+      let rest = any-from (n + 1) rs in
+      ⊎_elim (λ (h : row_fires K s e x r F ≡ true). rw h refl) (λ (h : row_fires K s e x r F ≡ false). rw h rest) (cases_Bool (row_fires K s e x r F))
 
-    module _ (so_far : is_filled (fired_rows K s F e x) ≡ is_filled (fired_from i)) where
-      pub any_here : true ≡ row_fires K s e x (get_or s.rows i d) F → true ≡ is_filled (fired_rows K s F e x)
-      any_here h = sym (so_far ∙ some_more ∙ ap (λ b. b || is_filled (fired_from (i + 1))) (sym h))
-
-      pub any-later : false ≡ row_fires K s e x (get_or s.rows i d) F → is_filled (fired_rows K s F e x) ≡ is_filled (fired_from (i + 1))
-      any-later h = so_far ∙ some_more ∙ ap (λ b. b || is_filled (fired_from (i + 1))) (sym h)
+  -- a row fires where there are fired rows
+  pub any-fires : list_any (λ (r : Row). row_fires K s e x r F) s.rows ≡ is_filled (fired_rows K s F e x)
+  unfolding fired_rows
+  any-fires = any-from 0 s.rows

@@ -2,5 +2,5 @@ pub mod FiredRows
 mod Firings
 pub mod Gives
 mod ItemParts
-mod SlotLoops
+mod SlotValues
 pub mod Sought

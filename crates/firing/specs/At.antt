@@ -1,10 +1,8 @@
 -- A sheet and an event of the program, as the rules see them.
-use Rattle.std.specs.Prelude.{ℕ, cond, Some, None, Option}
+use Rattle.std.specs.Prelude.{Some, None, Option}
 use Rattle.records.specs.declared.event.Event.{Event}
-use Rattle.sheets.specs.Sound.{binds}
 use Rattle.sheets.specs.Tables.{SheetModel, sheet_of}
 use Rattle.sheets.specs.declared.tables.Argument.{Argument}
-use Rattle.sheets.specs.declared.tables.Cell.{Cell}
 use Rattle.firing.specs.declared.at.SheetEvent.{SheetEvent}
 
 module _ {V : Type 0} (s : SheetEvent V) where
@@ -13,11 +11,6 @@ module _ {V : Type 0} (s : SheetEvent V) where
 
   abbrev pub event_in : Event V
   event_in = s.event.now
-
--- the field of a cell that binds the slot t
-abbrev pub binding_field : ℕ → Option Cell → Option ℕ
-binding_field t None = None
-binding_field t (Some c) = cond (binds t c.want) (Some c.field) None
 
 -- the value of the first argument, if there is one
 abbrev pub first_value : {V : Type 0} → (Argument → Option V) → Option Argument → Option V

@@ -1,6 +1,6 @@
 // Collecting what an item gives at an event into a lent buffer, from a place on; each function answers the place after.
 ghost use Rattle.std.specs.Prelude.{◌≡◌};
-ghost use Rattle.rules.specs.Kinds.{values_by};
+ghost use Rattle.rules.specs.Kinds.{value_kind};
 ghost use Rattle.rules.specs.Step.{fired_rows};
 ghost use Rattle.sheets.specs.Words.{present};
 ghost use Rattle.std.specs.List.{flat_map};
@@ -67,9 +67,8 @@ fn row_into<V: Value, X: Copy, E: Effect<V, X>, S: Shelf<Of = V>>(
     out: &mut [X],
     place: u128,
 ) -> u128
-    requires { S.Shelf.right shelf.now }
-    ensures out { out.new ≡ fill out.old place (row_gives_if (E.Effect.of_entry effect.now at.now) (values_by V.Value.order V.Value.blank V.Value.reads) at.now (S.Shelf.items shelf.now) item.now (numbered number row.now)) }
-    ensures place { result ≡ places_after place (row_gives_if (E.Effect.of_entry effect.now at.now) (values_by V.Value.order V.Value.blank V.Value.reads) at.now (S.Shelf.items shelf.now) item.now (numbered number row.now)) }
+    ensures out { out.new ≡ fill out.old place (row_gives_if (E.Effect.of_entry effect.now at.now) (value_kind V.Value) at.now (S.Shelf.items shelf.now) item.now (numbered number row.now)) }
+    ensures place { result ≡ places_after place (row_gives_if (E.Effect.of_entry effect.now at.now) (value_kind V.Value) at.now (S.Shelf.items shelf.now) item.now (numbered number row.now)) }
 {
     if at.row_fires(shelf, item, row) {
         entries_into(effect, at, item, row, number, &row.entries, out, place)
@@ -87,9 +86,8 @@ fn rows_into<V: Value, X: Copy, E: Effect<V, X>, S: Shelf<Of = V>>(
     out: &mut [X],
     place: u128,
 ) -> u128
-    requires { S.Shelf.right shelf.now }
-    ensures out { out.new ≡ fill out.old place (flat_map (row_gives (E.Effect.of_entry effect.now at.now) item.now) (fired_rows (values_by V.Value.order V.Value.blank V.Value.reads) (sheet_in at.now) (S.Shelf.items shelf.now) (event_in at.now) item.now)) }
-    ensures place { result ≡ places_after place (flat_map (row_gives (E.Effect.of_entry effect.now at.now) item.now) (fired_rows (values_by V.Value.order V.Value.blank V.Value.reads) (sheet_in at.now) (S.Shelf.items shelf.now) (event_in at.now) item.now)) }
+    ensures out { out.new ≡ fill out.old place (flat_map (row_gives (E.Effect.of_entry effect.now at.now) item.now) (fired_rows (value_kind V.Value) (sheet_in at.now) (S.Shelf.items shelf.now) (event_in at.now) item.now)) }
+    ensures place { result ≡ places_after place (flat_map (row_gives (E.Effect.of_entry effect.now at.now) item.now) (fired_rows (value_kind V.Value) (sheet_in at.now) (S.Shelf.items shelf.now) (event_in at.now) item.now)) }
 {
     let mut after = place;
     for (i, row) in at.rows.iter().enumerate() {
@@ -104,15 +102,9 @@ fn any_fires<V: Value, S: Shelf<Of = V>>(
     shelf: &S,
     item: &Item<V>,
 ) -> bool
-    requires { S.Shelf.right shelf.now }
-    ensures { result ≡ is_filled (fired_rows (values_by V.Value.order V.Value.blank V.Value.reads) (sheet_in at.now) (S.Shelf.items shelf.now) (event_in at.now) item.now) }
+    ensures { result ≡ is_filled (fired_rows (value_kind V.Value) (sheet_in at.now) (S.Shelf.items shelf.now) (event_in at.now) item.now) }
 {
-    for row in at.rows {
-        if at.row_fires(shelf, item, row) {
-            return true;
-        }
-    }
-    false
+    at.rows.iter().any(|row| at.row_fires(shelf, item, row))
 }
 
 // What the item gives: first itself, by whether a row fires, and then its fired rows in order.
@@ -124,9 +116,8 @@ pub fn item_into<V: Value, X: Copy, E: Effect<V, X>, S: Shelf<Of = V>>(
     out: &mut [X],
     place: u128,
 ) -> u128
-    requires { S.Shelf.right shelf.now }
-    ensures out { out.new ≡ fill out.old place (item_gives (E.Effect.of_entry effect.now at.now) (values_by V.Value.order V.Value.blank V.Value.reads) at.now (S.Shelf.items shelf.now) (E.Effect.of_item effect.now at.now) item.now) }
-    ensures place { result ≡ places_after place (item_gives (E.Effect.of_entry effect.now at.now) (values_by V.Value.order V.Value.blank V.Value.reads) at.now (S.Shelf.items shelf.now) (E.Effect.of_item effect.now at.now) item.now) }
+    ensures out { out.new ≡ fill out.old place (item_gives (E.Effect.of_entry effect.now at.now) (value_kind V.Value) at.now (S.Shelf.items shelf.now) (E.Effect.of_item effect.now at.now) item.now) }
+    ensures place { result ≡ places_after place (item_gives (E.Effect.of_entry effect.now at.now) (value_kind V.Value) at.now (S.Shelf.items shelf.now) (E.Effect.of_item effect.now at.now) item.now) }
 {
     let fired = any_fires(at, shelf, item);
     let after = put_if(out, place, effect.of_item(at, item, fired));

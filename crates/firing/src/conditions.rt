@@ -1,22 +1,14 @@
 // Whether a row fires: its conditions are read on the items of a shelf.
-ghost use Rattle.std.specs.Prelude.{◌≡◌, not, ◌&&◌, if◌then◌else◌, ◌==◌};
-ghost use Rattle.rules.specs.Kinds.{values_by};
+ghost use Rattle.std.specs.Prelude.{◌≡◌, ◌&&◌, ◌==◌};
+ghost use Rattle.rules.specs.Kinds.{value_kind};
 ghost use Rattle.rules.specs.Step.{condition_holds, is_of, row_fires};
 ghost use Rattle.sheets.specs.Words.{every, present, some};
-ghost use Rattle.std.specs.Option.{option_to_list};
 ghost use Rattle.firing.specs.At.{event_in, sheet_in};
 
 use crate::at::SheetEvent;
 use items::{Item, Shelf};
 use sheets::{Condition, Pattern, Row};
 use values::Value;
-
-// Whether a condition is met, by whether an item of its pattern is on the shelf.
-fn as_wanted(negated: bool, found: bool) -> bool
-    ensures { result ≡ (if negated then not found else found) }
-{
-    if negated { !found } else { found }
-}
 
 impl<'a, 'b, V: Value> SheetEvent<'a, 'b, V> {
     // Whether the shelf holds an item of the pattern: only those with the first argument's value are looked at, where it has one.
@@ -27,8 +19,7 @@ impl<'a, 'b, V: Value> SheetEvent<'a, 'b, V> {
         row: &Row,
         pattern: Pattern,
     ) -> bool
-        requires { S.Shelf.right shelf.now }
-        ensures { result ≡ some (is_of (values_by V.Value.order V.Value.blank V.Value.reads) (sheet_in self.now) (event_in self.now) item.now row.now pattern) (S.Shelf.items shelf.now) }
+        ensures { result ≡ some (is_of (value_kind V.Value) (sheet_in self.now) (event_in self.now) item.now row.now pattern) (S.Shelf.items shelf.now) }
     {
         let first = self.first_value(item, row, pattern.arguments);
         let mut above = None;
@@ -41,45 +32,26 @@ impl<'a, 'b, V: Value> SheetEvent<'a, 'b, V> {
         false
     }
 
-    // Whether a place for a condition is free, or its condition is met.
+    // Whether the condition is met: an item of its pattern is on the shelf or, negated, none is.
     fn condition_holds<S: Shelf<Of = V>>(
         &self,
         shelf: &S,
         item: &Item<V>,
         row: &Row,
-        place: &Option<Condition>,
+        condition: &Condition,
     ) -> bool
-        requires { S.Shelf.right shelf.now }
-        ensures { result ≡ every (condition_holds (values_by V.Value.order V.Value.blank V.Value.reads) (sheet_in self.now) (event_in self.now) item.now row.now (S.Shelf.items shelf.now)) (option_to_list place.now) }
+        ensures { result ≡ condition_holds (value_kind V.Value) (sheet_in self.now) (event_in self.now) item.now row.now (S.Shelf.items shelf.now) condition.now }
     {
-        match place {
-            Some(condition) => {
-                as_wanted(
-                    condition.negated,
-                    self.exists(shelf, item, row, condition.pattern),
-                )
-            }
-            None => true,
-        }
+        condition.negated != self.exists(shelf, item, row, condition.pattern)
     }
 
-    // Whether every condition is met.
-    fn conditions_hold<S: Shelf<Of = V>>(
-        &self,
-        shelf: &S,
-        item: &Item<V>,
-        row: &Row,
-        conditions: &[Option<Condition>],
-    ) -> bool
-        requires { S.Shelf.right shelf.now }
-        ensures { result ≡ every (condition_holds (values_by V.Value.order V.Value.blank V.Value.reads) (sheet_in self.now) (event_in self.now) item.now row.now (S.Shelf.items shelf.now)) (present conditions.now) }
+    // Whether every condition of the row is met.
+    fn conditions_hold<S: Shelf<Of = V>>(&self, shelf: &S, item: &Item<V>, row: &Row) -> bool
+        ensures { result ≡ every (condition_holds (value_kind V.Value) (sheet_in self.now) (event_in self.now) item.now row.now (S.Shelf.items shelf.now)) (present row.now.conditions) }
     {
-        for place in conditions {
-            if !self.condition_holds(shelf, item, row, place) {
-                return false;
-            }
-        }
-        true
+        row.conditions.iter().flatten().all(|condition| self.condition_holds(
+            shelf, item, row, condition,
+        ))
     }
 
     // Whether the row is one of the item's state and the event's kind.
@@ -91,11 +63,10 @@ impl<'a, 'b, V: Value> SheetEvent<'a, 'b, V> {
 
     // Whether the row fires for the item, with the shelf's items as the set before the event.
     pub fn row_fires<S: Shelf<Of = V>>(&self, shelf: &S, item: &Item<V>, row: &Row) -> bool
-        requires { S.Shelf.right shelf.now }
-        ensures { result ≡ row_fires (values_by V.Value.order V.Value.blank V.Value.reads) (sheet_in self.now) (event_in self.now) item.now row.now (S.Shelf.items shelf.now) }
+        ensures { result ≡ row_fires (value_kind V.Value) (sheet_in self.now) (event_in self.now) item.now row.now (S.Shelf.items shelf.now) }
     {
         self.row_applies(item, row)
             && self.cells_hold(item, row)
-            && self.conditions_hold(shelf, item, row, &row.conditions)
+            && self.conditions_hold(shelf, item, row)
     }
 }

@@ -1,8 +1,7 @@
 // The two effects: the moves of an event, and its findings.
 ghost use Rattle.std.specs.Prelude.{◌≡◌, map};
-ghost use Rattle.rules.specs.Kinds.{values_by};
+ghost use Rattle.rules.specs.Kinds.{value_kind};
 ghost use Rattle.rules.specs.Step.{entry_faults, entry_moves, lapse_faults, leaving, numbered_as};
-ghost use Rattle.sheets.specs.Tables.{state_of};
 ghost use Rattle.std.specs.Option.{option_to_list};
 ghost use Rattle.firing.specs.At.{event_in, sheet_in};
 ghost use Rattle.firing.specs.Effects.{fired_as};
@@ -12,26 +11,8 @@ use crate::at::SheetEvent;
 use crate::effect::Effect;
 use items::Item;
 use rules::{Cause, Fault, Finding, Move};
-use sheets::{Entry, Row, State};
+use sheets::{Entry, Row, state_of};
 use values::Value;
-
-// The state of that name, without marks where the sheet does not name it.
-pub fn state_of(states: &[State], name: u8) -> State
-    ensures { result ≡ state_of states.now name }
-{
-    let i = usize::from(name);
-    if i < states.len() {
-        return states[i];
-    }
-    State {
-        parameters: 0,
-        init: false,
-        always: false,
-        hot: false,
-        step: false,
-        next: false,
-    }
-}
 
 // The moves of an event.
 #[derive(Clone, Copy)]
@@ -40,29 +21,19 @@ pub struct Moves;
 impl<V: Value> Effect<V, Move<V>> for Moves {
     ghost of_item = { λ _ s x fired. leaving (sheet_in s) x (fired_as fired) };
 
-    ghost of_entry = { λ _ s x row n entry. entry_moves (values_by V.Value.order V.Value.blank V.Value.reads) (sheet_in s) (event_in s) x row entry };
+    ghost of_entry = { λ _ s x row n entry. entry_moves (value_kind V.Value) (sheet_in s) (event_in s) x row entry };
 
     ghost quiet = { Prim.search rules };
 
     fn of_item(&self, at: &SheetEvent<'_, '_, V>, item: &Item<V>, fired: bool) -> Option<Move<V>> {
         let state = state_of(at.states, item.name);
-        if fired {
-            if state.always {
-                None
-            } else {
-                Some(Move {
-                    cause: Cause::Fired,
-                    item: *item,
-                })
-            }
-        } else if state.step || state.next {
-            Some(Move {
-                cause: Cause::Lapsed,
-                item: *item,
-            })
+        let leaves = if fired {
+            !state.always
         } else {
-            None
-        }
+            state.step || state.next
+        };
+        let cause = if fired { Cause::Fired } else { Cause::Lapsed };
+        leaves.then_some(Move { cause, item: *item })
     }
 
     fn of_entry(

@@ -16,5 +16,6 @@ mod slots;
 pub use at::SheetEvent;
 pub use collect::item_into;
 pub use effect::Effect;
-pub use effects::{Findings, Moves, state_of};
+pub use effects::{Findings, Moves};
 pub use one::{item_findings, item_moves};
+pub use sheets::state_of;

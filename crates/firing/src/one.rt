@@ -1,6 +1,6 @@
 // The moves and the findings of one item at an event, put into a lent buffer from a place on; the place after is answered.
 ghost use Rattle.std.specs.Prelude.{◌≡◌, map};
-ghost use Rattle.rules.specs.Kinds.{values_by};
+ghost use Rattle.rules.specs.Kinds.{value_kind};
 ghost use Rattle.rules.specs.Step.{item_faults, item_moves, numbered_as};
 ghost use Rattle.firing.specs.At.{event_in, sheet_in};
 ghost use Rattle.buffers.specs.Places.{fill, places_after};
@@ -20,9 +20,8 @@ pub fn item_moves<V: Value, S: Shelf<Of = V>>(
     out: &mut [Move<V>],
     place: u128,
 ) -> u128
-    requires { S.Shelf.right shelf.now }
-    ensures out { out.new ≡ fill out.old place (item_moves (values_by V.Value.order V.Value.blank V.Value.reads) (sheet_in at.now) (S.Shelf.items shelf.now) (event_in at.now) item.now) }
-    ensures place { result ≡ places_after place (item_moves (values_by V.Value.order V.Value.blank V.Value.reads) (sheet_in at.now) (S.Shelf.items shelf.now) (event_in at.now) item.now) }
+    ensures out { out.new ≡ fill out.old place (item_moves (value_kind V.Value) (sheet_in at.now) (S.Shelf.items shelf.now) (event_in at.now) item.now) }
+    ensures place { result ≡ places_after place (item_moves (value_kind V.Value) (sheet_in at.now) (S.Shelf.items shelf.now) (event_in at.now) item.now) }
 {
     item_into(&Moves, at, shelf, item, out, place)
 }
@@ -36,9 +35,8 @@ pub fn item_findings<V: Value, S: Shelf<Of = V>>(
     out: &mut [Finding<V>],
     place: u128,
 ) -> u128
-    requires { S.Shelf.right shelf.now }
-    ensures out { out.new ≡ fill out.old place (map (numbered_as number) (item_faults (values_by V.Value.order V.Value.blank V.Value.reads) (sheet_in at.now) (S.Shelf.items shelf.now) (event_in at.now) item.now)) }
-    ensures place { result ≡ places_after place (map (numbered_as number) (item_faults (values_by V.Value.order V.Value.blank V.Value.reads) (sheet_in at.now) (S.Shelf.items shelf.now) (event_in at.now) item.now)) }
+    ensures out { out.new ≡ fill out.old place (map (numbered_as number) (item_faults (value_kind V.Value) (sheet_in at.now) (S.Shelf.items shelf.now) (event_in at.now) item.now)) }
+    ensures place { result ≡ places_after place (map (numbered_as number) (item_faults (value_kind V.Value) (sheet_in at.now) (S.Shelf.items shelf.now) (event_in at.now) item.now)) }
 {
     item_into(&Findings { event: number }, at, shelf, item, out, place)
 }

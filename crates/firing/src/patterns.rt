@@ -1,32 +1,29 @@
 // What the patterns of a row stand for.
 ghost use Rattle.std.specs.Prelude.{◌≡◌, ◌&&◌};
 ghost use Rattle.items.specs.Items.{agrees, named};
-ghost use Rattle.rules.specs.Kinds.{values_by};
+ghost use Rattle.rules.specs.Kinds.{value_kind};
 ghost use Rattle.rules.specs.Step.{all_agree, argument_value, is_of, item_of, place_value, values_in};
 ghost use Rattle.sheets.specs.Tables.{argument_list, first_argument};
 ghost use Rattle.std.specs.Option.{unwrap_or};
 ghost use Rattle.firing.specs.At.{event_in, first_value, sheet_in};
 
 use crate::at::SheetEvent;
-use crate::cells::{own_value, same};
+use crate::cells::own_value;
 use items::Item;
 use sheets::{Argument, Arguments, Pattern, Row};
 use values::Value;
 
 // Whether a value is the one wanted, if one is.
 fn agrees_with<V: Value>(wanted: Option<V>, value: &V) -> bool
-    ensures { result ≡ agrees V.Value.order wanted value.now }
+    ensures { result ≡ agrees V.Ord.cmp wanted value.now }
 {
-    match wanted {
-        Some(other) => same(value, &other),
-        None => true,
-    }
+    wanted.is_none_or(|other| *value == other)
 }
 
 impl<'a, 'b, V: Value> SheetEvent<'a, 'b, V> {
     // An argument's value; none for any.
     pub fn argument_value(&self, item: &Item<V>, row: &Row, argument: Argument) -> Option<V>
-        ensures { result ≡ argument_value (values_by V.Value.order V.Value.blank V.Value.reads) (sheet_in self.now) (event_in self.now) item.now row.now argument }
+        ensures { result ≡ argument_value (value_kind V.Value) (sheet_in self.now) (event_in self.now) item.now row.now argument }
     {
         match argument {
             Argument::Constant(number) => Some(self.constant(number)),
@@ -38,26 +35,22 @@ impl<'a, 'b, V: Value> SheetEvent<'a, 'b, V> {
 
     // The value of the first argument, where there is one and it is not any.
     pub fn first_value(&self, item: &Item<V>, row: &Row, arguments: Arguments) -> Option<V>
-        ensures { result ≡ first_value (argument_value (values_by V.Value.order V.Value.blank V.Value.reads) (sheet_in self.now) (event_in self.now) item.now row.now) (first_argument arguments) }
+        ensures { result ≡ first_value (argument_value (value_kind V.Value) (sheet_in self.now) (event_in self.now) item.now row.now) (first_argument arguments) }
     {
-        match arguments {
-            Arguments::Nothing => None,
-            Arguments::One(first) => self.argument_value(item, row, first),
-            Arguments::Two(first, _) => self.argument_value(item, row, first),
-            Arguments::Three(first, _, _) => self.argument_value(item, row, first),
-        }
+        let first = arguments.first()?;
+        self.argument_value(item, row, first)
     }
 
     // Whether a value is that of the argument.
     fn argument_agrees(&self, item: &Item<V>, row: &Row, argument: Argument, value: &V) -> bool
-        ensures { result ≡ agrees V.Value.order (argument_value (values_by V.Value.order V.Value.blank V.Value.reads) (sheet_in self.now) (event_in self.now) item.now row.now argument) value.now }
+        ensures { result ≡ agrees V.Ord.cmp (argument_value (value_kind V.Value) (sheet_in self.now) (event_in self.now) item.now row.now argument) value.now }
     {
         agrees_with(self.argument_value(item, row, argument), value)
     }
 
     // Whether another item is one of the pattern.
     pub fn is_of(&self, item: &Item<V>, row: &Row, pattern: Pattern, other: &Item<V>) -> bool
-        ensures { result ≡ is_of (values_by V.Value.order V.Value.blank V.Value.reads) (sheet_in self.now) (event_in self.now) item.now row.now pattern other.now }
+        ensures { result ≡ is_of (value_kind V.Value) (sheet_in self.now) (event_in self.now) item.now row.now pattern other.now }
     {
         if other.name != pattern.state {
             return false;
@@ -79,7 +72,7 @@ impl<'a, 'b, V: Value> SheetEvent<'a, 'b, V> {
 
     // The value that an ask or a strike has for an argument.
     fn place_value(&self, item: &Item<V>, row: &Row, argument: Argument) -> V
-        ensures { result ≡ unwrap_or (argument_value (values_by V.Value.order V.Value.blank V.Value.reads) (sheet_in self.now) (event_in self.now) item.now row.now argument) V.Value.blank }
+        ensures { result ≡ unwrap_or (argument_value (value_kind V.Value) (sheet_in self.now) (event_in self.now) item.now row.now argument) V.Value.blank }
     {
         self.argument_value(item, row, argument)
             .unwrap_or(V::filler())
@@ -87,47 +80,28 @@ impl<'a, 'b, V: Value> SheetEvent<'a, 'b, V> {
 
     // The item that an ask or a strike names.
     pub fn item_of(&self, item: &Item<V>, row: &Row, pattern: Pattern) -> Item<V>
-        ensures { result ≡ item_of (values_by V.Value.order V.Value.blank V.Value.reads) (sheet_in self.now) (event_in self.now) item.now row.now pattern }
+        ensures { result ≡ item_of (value_kind V.Value) (sheet_in self.now) (event_in self.now) item.now row.now pattern }
     {
-        let name = pattern.state;
         let none = V::filler();
-        match pattern.arguments {
-            Arguments::Nothing => Item {
-                name,
-                first: none,
-                second: none,
-                third: none,
-            },
-            Arguments::One(a) => {
-                let first = self.place_value(item, row, a);
-                Item {
-                    name,
-                    first,
-                    second: none,
-                    third: none,
-                }
-            }
-            Arguments::Two(a, b) => {
-                let first = self.place_value(item, row, a);
-                let second = self.place_value(item, row, b);
-                Item {
-                    name,
-                    first,
-                    second,
-                    third: none,
-                }
-            }
-            Arguments::Three(a, b, c) => {
-                let first = self.place_value(item, row, a);
-                let second = self.place_value(item, row, b);
-                let third = self.place_value(item, row, c);
-                Item {
-                    name,
-                    first,
-                    second,
-                    third,
-                }
-            }
+        let (first, second, third) = match pattern.arguments {
+            Arguments::Nothing => (none, none, none),
+            Arguments::One(a) => (self.place_value(item, row, a), none, none),
+            Arguments::Two(a, b) => (
+                self.place_value(item, row, a),
+                self.place_value(item, row, b),
+                none,
+            ),
+            Arguments::Three(a, b, c) => (
+                self.place_value(item, row, a),
+                self.place_value(item, row, b),
+                self.place_value(item, row, c),
+            ),
+        };
+        Item {
+            name: pattern.state,
+            first,
+            second,
+            third,
         }
     }
 }

@@ -167,12 +167,6 @@ module _ {V : Type 0} {order : V → V → Ordering} (t : TotalOrder order) (buc
       sum-times : (j : ℕ) → times j E + times j (i ∷ C) ≡ times j js
       sum-times j = sym (times-append j E (i ∷ C)) ∙ ap (times j) sum
 
-      pub out-small : i < lim
-      out-small =
-          ⊎_elim (λ h. h)
-          (λ h. let a = bounded i h in absurd (omega (arith, sum-times i, times-same i C)))
-          (cases_lt i lim)
-
       pub take-items : held (item_order order) (item_in blank cells i) (map (item_in blank cells) js) ≡ true → map (item_in blank cells) (E ++ C) ≡ without (item_order order) (item_in blank cells i) (map (item_in blank cells) js)
       take-items n =
           let l = leading-map (item_in blank cells) (λ y. item_order order y (item_in blank cells i)) js in

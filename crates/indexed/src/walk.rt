@@ -18,7 +18,7 @@ pub fn last_before<V: Value>(
     item: &Item<V>,
 ) -> usize
     requires { Walkable (length cells.now) links.now limit start }
-    ensures { result ≡ last_of start (front (probe V.Value.order V.Value.blank cells.now item.now) (reached links.now limit start limit)) }
+    ensures { result ≡ last_of start (front (probe V.Ord.cmp V.Value.blank cells.now item.now) (reached links.now limit start limit)) }
 {
     let mut last = start;
     while (links[last] as usize) < limit {
@@ -42,7 +42,7 @@ pub fn first_wanted<V: Value>(
     above: Option<Item<V>>,
 ) -> Option<Item<V>>
     requires { Walkable (length cells.now) links.now limit start }
-    ensures { result ≡ first_of (wanted V.Value.order name first above) (map (item_in V.Value.blank cells.now) (reached links.now limit start limit)) }
+    ensures { result ≡ first_of (wanted V.Ord.cmp name first above) (map (item_in V.Value.blank cells.now) (reached links.now limit start limit)) }
 {
     let mut last = start;
     while (links[last] as usize) < limit {

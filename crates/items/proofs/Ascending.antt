@@ -38,6 +38,13 @@ leading-below p (x ∷ xs) zero d h n = by_answer (p x) (λ e. absurd (n e)) (λ
 leading-below p (x ∷ xs) (suc k) d h n =
     by_answer (p x) (λ e. let r = leading-below p xs k d (omega arith) n in rw e (omega arith)) (λ e. rw e (omega arith)) (λ e. rw e (omega arith))
 
+-- the leading ones stand before
+pub leading-less : {X : Type 0} (p : X → Ordering) (xs : List X) (k : ℕ) (d : X) → k < leading p xs → p (get_or xs k d) ≡ Less
+leading-less p [] k d h = absurd (omega arith)
+leading-less p (x ∷ xs) zero d h = by_answer (p x) (λ e. e) (λ e. let i = rw e at h in absurd (omega arith)) (λ e. let i = rw e at h in absurd (omega arith))
+leading-less p (x ∷ xs) (suc k) d h =
+    by_answer (p x) (λ e. let i = rw e at h in leading-less p xs k d (omega arith)) (λ e. let i = rw e at h in absurd (omega arith)) (λ e. let i = rw e at h in absurd (omega arith))
+
 pub leading-within : {X : Type 0} (p : X → Ordering) (xs : List X) → leading p xs ≤ length xs
 leading-within p [] = omega arith
 leading-within p (x ∷ xs) = let r = leading-within p xs in by_answer (p x) (λ e. rw e (omega arith)) (λ e. rw e (omega arith)) (λ e. rw e (omega arith))

@@ -1,5 +1,5 @@
 -- Sets as strictly ascending lists, over any three-way order.
-use Rattle.std.specs.Prelude.{ℕ, suc, Bool, true, false, cond, ◌&&◌, ◌||◌, List, [], ◌∷◌, Some, None, Option}
+use Rattle.std.specs.Prelude.{ℕ, suc, Bool, true, false, cond, ◌&&◌, ◌||◌, List, [], ◌∷◌, Some, None, Option, filter}
 use Rattle.std.specs.declared.cmp.Ordering.TheVariants.{Less, Equal, Greater}
 use Rattle.std.specs.declared.cmp.Ordering.{Ordering}
 use Rattle.std.specs.Ordering.{is_eq, is_lt}
@@ -28,8 +28,7 @@ module _ {X : Type 0} where
 
   -- the elements that pass the test
   abbrev pub kept : (X → Bool) → List X → List X
-  kept t [] = []
-  kept t (x ∷ xs) = cond (t x) (x ∷ kept t xs) (kept t xs)
+  kept = filter
 
 module _ {X : Type 0} (order : X → X → Ordering) where
   -- x is less than the first element, if there is one

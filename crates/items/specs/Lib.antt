@@ -1,3 +1,4 @@
 pub mod Ascending
 pub mod Items
 pub mod Sets
+pub mod Texts

@@ -8,6 +8,7 @@ mod item;
 mod limit;
 mod sets;
 mod shelf;
+mod text;
 mod walks;
 
 pub use added::Added;

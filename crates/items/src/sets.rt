@@ -6,5 +6,5 @@ use values::Value;
 
 // Tells the caller which items are held once one is put in or taken out, and that what `next` finds is the least.
 pub fn know_sets<V: Value>()
-    ensures { SetMeaning (item_order V.Value.order) }
+    ensures { SetMeaning (item_order V.Ord.cmp) }
 {}

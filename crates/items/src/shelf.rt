@@ -18,38 +18,28 @@ pub trait Shelf {
     // How many it may hold, fixed when it is made.
     ghost limit: { Self → ℕ };
 
-    // It is rightly made, as each shelf is from its making on.
-    ghost right: { Self → Type 0 };
-
     // How many items it may hold.
     fn limit(&self) -> usize
-        requires { right self.now }
         ensures { result ≡ limit self.now };
 
     // How many items it holds.
     fn count(&self) -> usize
-        requires { right self.now }
         ensures { result ≡ length (items self.now) };
 
     // Whether it holds the item.
     fn holds(&self, item: &Item<Self::Of>) -> bool
-        requires { right self.now }
-        ensures { result ≡ held (item_order Self.Of.Value.order) item.now (items self.now) };
+        ensures { result ≡ held (item_order Self.Of.Ord.cmp) item.now (items self.now) };
 
     // Puts the item in, unless it is held already or the shelf is full.
     fn add(&mut self, item: Item<Self::Of>) -> Added
-        requires { right self.old }
-        ensures right { right self.new }
-        ensures answer { result ≡ add_answer Self.Of.Value.order (limit self.old) item (items self.old) }
-        ensures items { items self.new ≡ after_add Self.Of.Value.order result item (items self.old) }
+        ensures answer { result ≡ add_answer Self.Of.Ord.cmp (limit self.old) item (items self.old) }
+        ensures items { items self.new ≡ after_add Self.Of.Ord.cmp result item (items self.old) }
         ensures limit { limit self.new ≡ limit self.old };
 
     // Takes the item out, and answers whether it was held.
     fn remove(&mut self, item: &Item<Self::Of>) -> bool
-        requires { right self.old }
-        ensures right { right self.new }
-        ensures answer { result ≡ held (item_order Self.Of.Value.order) item.now (items self.old) }
-        ensures items { items self.new ≡ without (item_order Self.Of.Value.order) item.now (items self.old) }
+        ensures answer { result ≡ held (item_order Self.Of.Ord.cmp) item.now (items self.old) }
+        ensures items { items self.new ≡ without (item_order Self.Of.Ord.cmp) item.now (items self.old) }
         ensures limit { limit self.new ≡ limit self.old };
 
     // The least item of that name, of that first value if one is given, above that item if one is given.
@@ -59,13 +49,12 @@ pub trait Shelf {
         first: Option<Self::Of>,
         above: Option<Item<Self::Of>>,
     ) -> Option<Item<Self::Of>>
-        requires { right self.now }
-        ensures { result ≡ next_of Self.Of.Value.order name first above (items self.now) };
+        ensures { result ≡ next_of Self.Of.Ord.cmp name first above (items self.now) };
 
-    ghost ascending: { (s : Self) → right s → ascends (item_order Self.Of.Value.order) (items s) ≡ true };
+    ghost ascending: { (s : Self) → ascends (item_order Self.Of.Ord.cmp) (items s) ≡ true };
 
-    ghost bounded: { (s : Self) → right s → limit s ≤ 65536 };
+    ghost bounded: { (s : Self) → limit s ≤ 65536 };
 
     // A state name is a byte, so there is no item behind the name 255.
-    ghost bytes: { (s : Self) → right s → ByteNames (items s) };
+    ghost bytes: { (s : Self) → ByteNames (items s) };
 }

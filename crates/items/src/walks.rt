@@ -9,15 +9,13 @@ use values::Value;
 
 // The next item of a name, after the one given or from the start.
 fn next_of<S: Shelf>(shelf: &S, name: u8, last: Option<Item<S::Of>>) -> Option<Item<S::Of>>
-    requires { S.Shelf.right shelf.now }
-    ensures { result ≡ next_of S.Of.Value.order name None last (S.Shelf.items shelf.now) }
+    ensures { result ≡ next_of S.Of.Ord.cmp name None last (S.Shelf.items shelf.now) }
 {
     shelf.next(name, None, last)
 }
 
 // How many items of a name a shelf holds.
 pub fn count_of<S: Shelf>(shelf: &S, name: u8) -> usize
-    requires { S.Shelf.right shelf.now }
     ensures { result ≡ length (kept (λ y. nat_eq y.name name) (S.Shelf.items shelf.now)) }
 {
     let total = shelf.count();

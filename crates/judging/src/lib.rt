@@ -1,7 +1,7 @@
-// Why the calls of a book are refused.
+// Whether the calls of a book are refused.
 
 #![tactic(auto)]
 
 mod refusing;
 
-pub use refusing::{early_refusal, end_refusal, late_refusal, open_refusal};
+pub use refusing::{judge_early, judge_end, judge_late, judge_open};

@@ -1,14 +1,12 @@
 -- Whether one shelf holds each item of another: what the walks keep.
-use Rattle.std.proofs.Common.{◌≡◌, ℕ, ◌+◌, ◌≤◌, Bool, true, false, ◌&&◌, List, Some, None, Option, Ordering, sym, ap, ◌∙◌}
+use Rattle.std.proofs.Common.{◌≡◌, ℕ, Bool, true, false, ◌&&◌, List, Some, None, Option, Ordering, sym, ap, ◌∙◌}
 use Rattle.values.specs.Order.{TotalOrder}
 use Rattle.items.specs.Ascending.{ascends, held, kept}
-use Rattle.items.specs.Items.{ByteNames, from_name, item_order, named, next_of, wanted}
+use Rattle.items.specs.Items.{item_order, named, next_of, wanted}
 use Rattle.items.specs.declared.item.Item.{Item}
-use Rattle.items.proofs.Names.{names-end, names_more, names-start}
 use Rattle.items.proofs.Next.{kept-none, rest_more}
 use Rattle.listing.specs.Listed.{all_held}
 use Rattle.listing.proofs.Lists.{wanted-named}
-use Rattle.listing.proofs.Subsets.{all-held-append}
 
 -- over the items of a name, those still to come; the answer for them is that for all
 module _ {V : Type 0} {order : V → V → Ordering} (t : TotalOrder order) (n : ℕ) (above : Option (Item V)) (xs ys : List (Item V)) (all : Bool) (so_far : all_held (item_order order) (kept (wanted order n None above) xs) ys ≡ all) where
@@ -28,24 +26,3 @@ module _ {V : Type 0} {order : V → V → Ordering} (t : TotalOrder order) (n :
 module _ {V : Type 0} (order : V → V → Ordering) (xs ys : List (Item V)) where
   pub items-start : (n : ℕ) → all_held (item_order order) (kept (wanted order n None None) xs) ys ≡ all_held (item_order order) (kept (named n) xs) ys
   items-start n = ap (λ l. all_held (item_order order) l ys) (wanted-named order n xs)
-
-  pub held_start : all_held (item_order order) (kept (from_name 0) xs) ys ≡ all_held (item_order order) xs ys
-  held_start = ap (λ l. all_held (item_order order) l ys) (names-start xs)
-
-  -- over all names, those still to come
-  module _ (k : ℕ) (so_far : all_held (item_order order) (kept (from_name k) xs) ys ≡ all_held (item_order order) xs ys) where
-    module _ (a : ascends (item_order order) xs ≡ true) where
-      name-first : (all_held (item_order order) (kept (named k) xs) ys && all_held (item_order order) (kept (from_name (k + 1)) xs) ys) ≡ all_held (item_order order) xs ys
-      name-first =
-          sym (all-held-append (item_order order) (kept (named k) xs) (kept (from_name (k + 1)) xs) ys)
-          ∙ ap (λ l. all_held (item_order order) l ys) (sym (names_more order k xs a))
-          ∙ so_far
-
-      pub name-missing : false ≡ all_held (item_order order) (kept (named k) xs) ys → false ≡ all_held (item_order order) xs ys
-      name-missing h = ap (λ b. b && all_held (item_order order) (kept (from_name (k + 1)) xs) ys) h ∙ name-first
-
-      pub name-there : true ≡ all_held (item_order order) (kept (named k) xs) ys → all_held (item_order order) (kept (from_name (k + 1)) xs) ys ≡ all_held (item_order order) xs ys
-      name-there h = ap (λ b. b && all_held (item_order order) (kept (from_name (k + 1)) xs) ys) h ∙ name-first
-
-    pub names-done : 256 ≤ k → ByteNames xs → true ≡ all_held (item_order order) xs ys
-    names-done l b = ap (λ l. all_held (item_order order) l ys) (sym (names-end k xs l b)) ∙ so_far

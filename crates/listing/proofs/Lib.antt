@@ -1,3 +1,4 @@
+mod AllNames
 mod HeldWalks
 pub mod Lists
 mod Subsets

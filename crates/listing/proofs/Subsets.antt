@@ -1,5 +1,5 @@
 -- An ascending list that holds each element of another one, and as many, is that list.
-use Rattle.std.proofs.Common.{◌≡◌, ◌≤◌, Bool, true, false, ◌&&◌, ◌||◌, eqb, List, [], ◌∷◌, ◌++◌, length, Ordering, sym, refl, ap, ◌∙◌, subst, arith}
+use Rattle.std.proofs.Common.{◌≡◌, ◌≤◌, Bool, true, false, ◌&&◌, ◌||◌, eqb, List, [], ◌∷◌, length, Ordering, refl, subst, arith}
 use Rattle.std.proofs.lemmas.Bool.{and_parts, and_from, both_ways, eqb-true, eq-eqb}
 use Rattle.std.specs.Ordering.{is_eq}
 use Rattle.values.specs.Order.{TotalOrder}
@@ -7,15 +7,6 @@ use Rattle.items.specs.Ascending.{ascends, heads, held}
 use Rattle.items.proofs.Orders.{by_answer}
 use Rattle.items.proofs.Ascending.{ascends-tail, heads-down, held-above, is-less, less-greater, greater-less}
 use Rattle.listing.specs.Listed.{all_held}
-
-module _ {X : Type 0} (order : X → X → Ordering) where
-  pub all-held-append : (xs ys zs : List X) → all_held order (xs ++ ys) zs ≡ (all_held order xs zs && all_held order ys zs)
-  all-held-append [] ys zs = refl
-  all-held-append (x ∷ xs) ys zs = ap (λ b. held order x zs && b) (all-held-append xs ys zs) ∙ sym (and_assoc (held order x zs) (all_held order xs zs) (all_held order ys zs))
-    where
-      and_assoc : (a b c : Bool) → ((a && b) && c) ≡ (a && (b && c))
-      and_assoc true b c = refl
-      and_assoc false b c = refl
 
 module _ {X : Type 0} {order : X → X → Ordering} (t : TotalOrder order) where
   -- what is above an element is held without it

@@ -1,6 +1,7 @@
 -- What is listed of a set of items, and sets compared.
-use Rattle.std.specs.Prelude.{ℕ, Bool, true, cond, ◌&&◌, List, [], ◌∷◌, map}
+use Rattle.std.specs.Prelude.{ℕ, Bool, cond, List, [], map}
 use Rattle.std.specs.declared.cmp.Ordering.{Ordering}
+use Rattle.std.specs.List.{list_all}
 use Rattle.items.specs.Ascending.{held, kept}
 use Rattle.items.specs.Items.{named}
 use Rattle.items.specs.declared.item.Item.{Item}
@@ -16,5 +17,4 @@ module _ {V X : Type 0} (takes : ℕ → Bool) (shows : Item V → X) where
 
 -- each element of the first list is held by the second
 abbrev pub all_held : {X : Type 0} → (X → X → Ordering) → List X → List X → Bool
-all_held order [] ys = true
-all_held order (x ∷ xs) ys = held order x ys && all_held order xs ys
+all_held order xs ys = list_all (λ x. held order x ys) xs

@@ -27,7 +27,6 @@ impl<V: Value> Listing<V, Item<V>> for Everything {
 
 // Writes the items in order as far as the room reaches.
 fn write_items<V: Value, S: Shelf<Of = V>>(shelf: &S, room: &mut [Item<V>])
-    requires { S.Shelf.right shelf.now }
     ensures { room.new ≡ filled (take (length room.old) (S.Shelf.items shelf.now)) room.old }
 {
     let _ = listed_into(&Everything, shelf, room);
@@ -35,7 +34,6 @@ fn write_items<V: Value, S: Shelf<Of = V>>(shelf: &S, room: &mut [Item<V>])
 
 // Writes the items in order as far as the room reaches, and answers how many there are.
 pub fn list_items<V: Value, S: Shelf<Of = V>>(shelf: &S, room: &mut [Item<V>]) -> usize
-    requires { S.Shelf.right shelf.now }
     ensures room { room.new ≡ filled (take (length room.old) (S.Shelf.items shelf.now)) room.old }
     ensures count { result ≡ length (S.Shelf.items shelf.now) }
 {

@@ -6,7 +6,6 @@ ghost use Rattle.items.specs.Items.{named};
 ghost use Rattle.listing.specs.Listed.{listed_named, listed_of};
 
 use crate::listing::Listing;
-use crate::names::NAMES;
 use buffers::put;
 use items::Shelf;
 use values::Value;
@@ -19,7 +18,6 @@ fn named_into<V: Value, X: Copy, L: Listing<V, X>, S: Shelf<Of = V>>(
     out: &mut [X],
     place: u128,
 ) -> u128
-    requires { S.Shelf.right shelf.now }
     ensures out { out.new ≡ fill out.old place (map (L.Listing.shows listing.now) (kept (named name) (S.Shelf.items shelf.now))) }
     ensures place { result ≡ places_after place (map (L.Listing.shows listing.now) (kept (named name) (S.Shelf.items shelf.now))) }
 {
@@ -40,7 +38,6 @@ fn taken_into<V: Value, X: Copy, L: Listing<V, X>, S: Shelf<Of = V>>(
     out: &mut [X],
     place: u128,
 ) -> u128
-    requires { S.Shelf.right shelf.now }
     ensures out { out.new ≡ fill out.old place (listed_named (L.Listing.takes listing.now) (L.Listing.shows listing.now) name (S.Shelf.items shelf.now)) }
     ensures place { result ≡ places_after place (listed_named (L.Listing.takes listing.now) (L.Listing.shows listing.now) name (S.Shelf.items shelf.now)) }
 {
@@ -57,13 +54,12 @@ pub fn listed_into<V: Value, X: Copy, L: Listing<V, X>, S: Shelf<Of = V>>(
     shelf: &S,
     out: &mut [X],
 ) -> u128
-    requires { S.Shelf.right shelf.now }
     ensures out { out.new ≡ fill out.old 0 (listed_of (L.Listing.takes listing.now) (L.Listing.shows listing.now) (S.Shelf.items shelf.now)) }
     ensures count { result ≡ capped (length (listed_of (L.Listing.takes listing.now) (L.Listing.shows listing.now) (S.Shelf.items shelf.now))) }
 {
     let mut after = 0;
-    for name in 0..NAMES {
-        after = taken_into(listing, shelf, name as u8, out, after);
+    for name in 0..=u8::MAX {
+        after = taken_into(listing, shelf, name, out, after);
     }
     after
 }

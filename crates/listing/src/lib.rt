@@ -5,7 +5,6 @@
 mod everything;
 mod into;
 mod listing;
-mod names;
 mod same;
 
 pub use everything::{Everything, list_items};

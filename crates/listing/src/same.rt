@@ -4,15 +4,12 @@ ghost use Rattle.items.specs.Ascending.{kept};
 ghost use Rattle.items.specs.Items.{item_order, named};
 ghost use Rattle.listing.specs.Listed.{all_held};
 
-use crate::names::NAMES;
 use items::Shelf;
 use values::Value;
 
 // Whether the other shelf holds each item of a name.
 fn name_held<V: Value, S: Shelf<Of = V>, T: Shelf<Of = V>>(left: &S, other: &T, name: u8) -> bool
-    requires left { S.Shelf.right left.now }
-    requires other { T.Shelf.right other.now }
-    ensures { result ≡ all_held (item_order V.Value.order) (kept (named name) (S.Shelf.items left.now)) (T.Shelf.items other.now) }
+    ensures { result ≡ all_held (item_order V.Ord.cmp) (kept (named name) (S.Shelf.items left.now)) (T.Shelf.items other.now) }
 {
     let mut above = None;
     while let Some(item) = left.next(name, None, above) {
@@ -26,31 +23,20 @@ fn name_held<V: Value, S: Shelf<Of = V>, T: Shelf<Of = V>>(left: &S, other: &T, 
 
 // Whether the other shelf holds each item.
 fn all_held<V: Value, S: Shelf<Of = V>, T: Shelf<Of = V>>(left: &S, other: &T) -> bool
-    requires left { S.Shelf.right left.now }
-    requires other { T.Shelf.right other.now }
-    ensures { result ≡ all_held (item_order V.Value.order) (S.Shelf.items left.now) (T.Shelf.items other.now) }
+    ensures { result ≡ all_held (item_order V.Ord.cmp) (S.Shelf.items left.now) (T.Shelf.items other.now) }
 {
-    for name in 0..NAMES {
-        if !name_held(left, other, name as u8) {
-            return false;
-        }
-    }
-    true
+    (0..=u8::MAX).all(|name| name_held(left, other, name))
 }
 
 // Whether they hold as many items, and the other holds each of the first.
 fn as_many_held<V: Value, S: Shelf<Of = V>, T: Shelf<Of = V>>(left: &S, other: &T) -> bool
-    requires left { S.Shelf.right left.now }
-    requires other { T.Shelf.right other.now }
-    ensures { result ≡ (length (S.Shelf.items left.now) == length (T.Shelf.items other.now) && all_held (item_order V.Value.order) (S.Shelf.items left.now) (T.Shelf.items other.now)) }
+    ensures { result ≡ (length (S.Shelf.items left.now) == length (T.Shelf.items other.now) && all_held (item_order V.Ord.cmp) (S.Shelf.items left.now) (T.Shelf.items other.now)) }
 {
     left.count() == other.count() && all_held(left, other)
 }
 
 // Whether two shelves hold the same items.
 pub fn same_items<V: Value, S: Shelf<Of = V>, T: Shelf<Of = V>>(left: &S, other: &T) -> bool
-    requires left { S.Shelf.right left.now }
-    requires other { T.Shelf.right other.now }
     ensures same { result ≡ true → S.Shelf.items left.now ≡ T.Shelf.items other.now }
     ensures differ { S.Shelf.items left.now ≡ T.Shelf.items other.now → result ≡ true }
 {

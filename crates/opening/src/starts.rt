@@ -1,7 +1,7 @@
 // The init items of a sheet's states.
 ghost use Rattle.std.specs.Prelude.{◌≡◌, ◌≤◌, [], length};
 ghost use Rattle.rules.specs.Book.{inits_from, plain_item};
-ghost use Rattle.rules.specs.Kinds.{values_by};
+ghost use Rattle.rules.specs.Kinds.{value_kind};
 ghost use Rattle.rules.specs.Step.{how_many};
 ghost use Rattle.counting.specs.Counts.{RoomFor};
 ghost use Rattle.opening.specs.Starts.{Started, counted_with, is_init, started_with};
@@ -16,18 +16,12 @@ use values::Value;
 pub fn count_inits(states: &[State]) -> usize
     ensures { result ≡ how_many is_init states.now }
 {
-    let mut total = 0;
-    for state in states {
-        if state.init {
-            total += 1;
-        }
-    }
-    total
+    states.iter().filter(|state| state.init).count()
 }
 
 // The item of a state without parameters.
 fn plain_item<V: Value>(name: u8) -> Item<V>
-    ensures { result ≡ plain_item (values_by V.Value.order V.Value.blank V.Value.reads) name }
+    ensures { result ≡ plain_item (value_kind V.Value) name }
 {
     Item {
         name,
@@ -39,11 +33,9 @@ fn plain_item<V: Value>(name: u8) -> Item<V>
 
 // Puts the item of a state in, if the state is init.
 fn start_one<S: Shelf>(shelf: &mut S, name: u8, state: &State)
-    requires right { S.Shelf.right shelf.old }
-    requires room { length (started_with (values_by S.Of.Value.order S.Of.Value.blank S.Of.Value.reads) name state.now (S.Shelf.items shelf.old)) ≤ S.Shelf.limit shelf.old }
-    ensures right { S.Shelf.right shelf.new }
+    requires room { length (started_with (value_kind S.Of.Value) name state.now (S.Shelf.items shelf.old)) ≤ S.Shelf.limit shelf.old }
     ensures limit { S.Shelf.limit shelf.new ≡ S.Shelf.limit shelf.old }
-    ensures items { S.Shelf.items shelf.new ≡ started_with (values_by S.Of.Value.order S.Of.Value.blank S.Of.Value.reads) name state.now (S.Shelf.items shelf.old) }
+    ensures items { S.Shelf.items shelf.new ≡ started_with (value_kind S.Of.Value) name state.now (S.Shelf.items shelf.old) }
 {
     if state.init {
         shelf.add(plain_item(name));
@@ -52,13 +44,11 @@ fn start_one<S: Shelf>(shelf: &mut S, name: u8, state: &State)
 
 // Puts the init items on an empty shelf that has room for them.
 pub fn start_items<S: Shelf>(shelf: &mut S, states: &[State])
-    requires right { S.Shelf.right shelf.old }
     requires empty { S.Shelf.items shelf.old ≡ [] }
     requires few { length states.now ≤ 32 }
     requires room { how_many is_init states.now ≤ S.Shelf.limit shelf.old }
-    ensures right { S.Shelf.right shelf.new }
     ensures limit { S.Shelf.limit shelf.new ≡ S.Shelf.limit shelf.old }
-    ensures items { S.Shelf.items shelf.new ≡ inits_from (values_by S.Of.Value.order S.Of.Value.blank S.Of.Value.reads) 0 states.now }
+    ensures items { S.Shelf.items shelf.new ≡ inits_from (value_kind S.Of.Value) 0 states.now }
 {
     for (i, state) in states.iter().enumerate() {
         start_one(shelf, i as u8, state);
@@ -72,11 +62,7 @@ fn count_one(tallies: &mut [Tally; 32], name: u8, state: &State)
     if state.init {
         let more = Tally {
             started: 1,
-            asked: 0,
-            repeats: 0,
-            fired: 0,
-            lapsed: 0,
-            struck: 0,
+            ..Tally::default()
         };
         count_name(tallies, name, more);
     }

@@ -1,6 +1,6 @@
 -- Writing one field, and fields one after another.
-use Rattle.std.proofs.Common.{◌≡◌, ℕ, ◌+◌, ◌-◌, ◌*◌, ◌^◌, ◌<◌, ◌≤◌, true, false, List, [], ◌∷◌, ◌++◌, length, get_or, take, drop, Some, None, Option, sym, refl, ap, ◌∙◌, arith, length-append, length-drop, length-take}
-use Rattle.std.proofs.lemmas.List.{append_assoc, append-nil, drop_all, drop_at, drop-drop, drop_more, take_at, take_rest}
+use Rattle.std.proofs.Common.{◌≡◌, ℕ, ◌+◌, ◌-◌, ◌*◌, ◌^◌, ◌<◌, ◌≤◌, true, false, List, [], ◌∷◌, ◌++◌, length, get_or, take, drop, Bor, map, Some, None, Option, sym, refl, ap, ◌∙◌, arith, length-append, length-drop, length-take}
+use Rattle.std.proofs.lemmas.List.{append_assoc, append-nil, drop_all, drop_at, drop-drop, drop_more, get_or-map, length-map, take_at, take_rest}
 use Rattle.std.proofs.lemmas.Bool.{cond-true, cond-false}
 use Rattle.std.specs.Option.{option_map}
 use Rattle.values.specs.Form.{filled}
@@ -53,6 +53,13 @@ sized-joined n w (Some b) = ap Some (omega (arith, length-append w b))
 length-joined : (w : List ℕ) (o : Option (List ℕ)) → option_map length (joined (Some w) o) ≡ sized (length w) o
 length-joined w None = refl
 length-joined w (Some b) = ap Some (length-append w b)
+
+-- the i-th of references to fields
+pub field-is : {V : Type 0} (refs : List (Bor (Option V))) (fs : List (Option V)) (i : ℕ) (f : Bor (Option V)) → map (λ (g : Bor (Option V)). g.now) refs ≡ fs → i < length fs → (get_or refs i f).now ≡ get_or fs i None
+field-is {V} refs fs i f e h =
+    let now : Bor (Option V) → Option V = λ g. g.now in
+    let below : i < length refs = omega (arith, h, length-map refs now, ap length e) in
+    sym (get_or-map now refs i f None below) ∙ ap (λ l. get_or l i None) e
 
 module _ {V : Type 0} (written : V → Option (List ℕ)) where
   -- the fields from the i-th on

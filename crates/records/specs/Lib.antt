@@ -3,3 +3,4 @@ pub mod Reader
 pub mod Record
 pub mod RoundTrip
 pub mod Writer
+pub mod Texts

@@ -31,7 +31,7 @@ fn read_field<V: Value>(bytes: &[u8], at: usize, map: u8) -> Result<(Option<V>, 
         return Ok((None, at));
     }
     match V::read(&bytes[at..]) {
-        Ok(found) => Ok((Some(found.0), at + found.1)),
+        Ok((value, size)) => Ok((Some(value), at + size)),
         Err(place) => Err(at.saturating_add(place)),
     }
 }
@@ -46,16 +46,16 @@ fn read_fields<V: Value>(
     requires { start ≤ length bytes.now }
     ensures { result ≡ event V.Value.reads kind (fields_at V.Value.reads 8 map bytes.now start) }
 {
-    let mut fields = Event::bare(kind);
+    let mut event = Event::bare(kind);
     let mut at = start;
     let mut left = map;
-    for i in 0..8 {
-        let found = read_field(bytes, at, left)?;
-        fields.set_field_at(i, found.0);
-        at = found.1;
+    for number in 1..=8 {
+        let (value, end) = read_field(bytes, at, left)?;
+        event.set_field(number, value);
+        at = end;
         left = rest_of(left);
     }
-    Ok((fields, at))
+    Ok((event, at))
 }
 
 // The event at a place, with the place after it, or the place that is refused.

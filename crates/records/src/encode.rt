@@ -26,9 +26,8 @@ pub fn event_size<V: Value>(event: &Event<V>) -> Option<u128>
         return None;
     }
     let mut n: u128 = 2;
-    for i in 0..8 {
-        let field = event.field_at(i);
-        let size = field_size(&field)?;
+    for field in &event.fields() {
+        let size = field_size(field)?;
         n += size as u128;
     }
     Some(n)
@@ -58,9 +57,8 @@ pub fn fill<V: Value>(event: &Event<V>, buffer: &mut [u8]) -> usize
     buffer[0] = event.kind;
     buffer[1] = event.map();
     let mut at = 2;
-    for i in 0..8 {
-        let field = event.field_at(i);
-        at = put_field(&field, buffer, at);
+    for field in &event.fields() {
+        at = put_field(field, buffer, at);
     }
     at
 }

@@ -1,3 +1,6 @@
+// The largest kind that may stand in a record.
+pub const LARGEST_KIND: u8 = 63;
+
 // A posting: its kind, from 0 to 63 where it is to be accepted, and its eight fields, each absent or a value.
 #[derive(Clone, Copy)]
 pub struct Event<V> {

@@ -8,6 +8,7 @@ pub mod event;
 pub mod fields;
 pub mod reader;
 pub mod reading;
+mod text;
 pub mod writing;
 
 pub use event::Event;

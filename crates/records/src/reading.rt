@@ -21,12 +21,9 @@ impl Reader<'_> {
         if self.place >= self.bytes.len() {
             return Ok(None);
         }
-        match read_record(self.bytes, self.place) {
-            Ok(found) => {
-                self.place = found.1;
-                Ok(Some(found.0))
-            }
-            Err(place) => Err(Refusal::Malformed { place }),
-        }
+        let read = read_record(self.bytes, self.place);
+        let (event, end) = read.map_err(|place| Refusal::Malformed { place })?;
+        self.place = end;
+        Ok(Some(event))
     }
 }

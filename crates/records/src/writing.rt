@@ -21,11 +21,7 @@ fn falls_short(room: usize, needed: u128) -> bool
 fn in_word(n: u128) -> usize
     ensures { result ≡ in_word n }
 {
-    if n <= usize::MAX as u128 {
-        n as usize
-    } else {
-        usize::MAX
-    }
+    usize::try_from(n).unwrap_or(usize::MAX)
 }
 
 // Fills the front of the buffer with the event's record, and answers how many bytes it has; a refusal leaves the buffer as it was.

@@ -1,5 +1,6 @@
 -- How each refusal is told: its number, its layer and its place.
-use Rattle.std.specs.Prelude.{ℕ, ◌+◌, List, Ok, Err, codes, Result}
+use Rattle.std.specs.Prelude.{ℕ, ◌+◌, List, ◌++◌, Ok, Err, codes, Result, Some, None, Option}
+use Rattle.std.specs.Fmt.{decimal}
 use Rattle.refusals.specs.declared.refusal.Layer.{Layer}
 use Rattle.refusals.specs.declared.refusal.Layer.TheVariants.{Sheet, Record, Book, Shelf}
 use Rattle.refusals.specs.declared.refusal.Table.{Table}
@@ -21,6 +22,33 @@ layer_text Sheet = codes "sheet"
 layer_text Record = codes "record"
 layer_text Book = codes "book"
 layer_text Shelf = codes "shelf"
+
+-- the word for each table
+abbrev pub table_text : Table → List ℕ
+table_text States = codes "states"
+table_text Rows = codes "rows"
+table_text Constants = codes "constants"
+
+-- the words for what breaks a rule of sheets
+abbrev pub broken_text : Broken → List ℕ
+broken_text (State n) = codes "state " ++ decimal n
+broken_text (Kind n) = codes "event kind " ++ decimal n
+broken_text (Row n) = codes "row " ++ decimal n
+
+-- the sentence for each refusal
+abbrev pub refusal_text : Refusal → List ℕ
+refusal_text (TableTooLong t) = codes "there are too many " ++ table_text t
+refusal_text (RuleBroken b) = broken_text b ++ codes " breaks a rule of sheets"
+refusal_text InitialStates = codes "no state is initial, or an initial state has parameters"
+refusal_text (Malformed p) = codes "not a record, at byte " ++ decimal p
+refusal_text WrongPhase = codes "the book is not in the phase for this call"
+refusal_text (TooManyEvents p) = codes "the book has accepted 1,000,000 events already"
+refusal_text (TooManyMoves p) = codes "more moves than the buffer has places"
+refusal_text (TooManyFindings p) = codes "more findings than the buffer has places"
+refusal_text (ShelfFull p) = codes "more items than the shelf's limit"
+refusal_text ShelfNotEmpty = codes "the shelf holds an item already"
+refusal_text UnknownName = codes "no state has a name over 31"
+refusal_text (BufferTooShort n) = codes "the buffer is too short: " ++ (decimal n ++ codes " bytes are needed")
 
 -- a number, a layer and a place
 abbrev pub telling : ℕ → Layer → ℕ → Told
@@ -57,3 +85,8 @@ told_of (BufferTooShort n) = telling 12 Record n
 abbrev pub told : {A : Type 0} → Result A Refusal → Result A Told
 told (Ok x) = Ok x
 told (Err e) = Err (told_of e)
+
+-- a refusal as an answer: where there is none, the answer is yes
+abbrev pub answer_of : Option Refusal → Result (Unit {0}) Refusal
+answer_of None = Ok tt
+answer_of (Some r) = Err r

@@ -1,5 +1,5 @@
 // The layer whose rule was not met.
-#[derive(Clone, Copy)]
+#[derive(Clone, Copy, PartialEq, Eq)]
 pub enum Layer {
     Sheet,
     Record,
@@ -8,7 +8,7 @@ pub enum Layer {
 }
 
 // The tables of a sheet whose length is limited.
-#[derive(Clone, Copy)]
+#[derive(Clone, Copy, PartialEq, Eq)]
 pub enum Table {
     States,
     Rows,
@@ -16,7 +16,7 @@ pub enum Table {
 }
 
 // What breaks a rule of sheets: a state, an event kind or a row, by its number from 0.
-#[derive(Clone, Copy)]
+#[derive(Clone, Copy, PartialEq, Eq)]
 pub enum Broken {
     State(u8),
     Kind(u8),
@@ -24,7 +24,7 @@ pub enum Broken {
 }
 
 // Why a call says no.
-#[derive(Clone, Copy)]
+#[derive(Clone, Copy, PartialEq, Eq)]
 pub enum Refusal {
     // A table of a sheet is too long.
     TableTooLong { table: Table },

@@ -4,23 +4,27 @@ ghost use Rattle.refusals.specs.Telling.{broken_place, table_place, told_of};
 
 use crate::refusal::{Broken, Layer, Refusal, Table};
 
-fn table_place(table: Table) -> usize
-    ensures { result ≡ table_place table }
-{
-    match table {
-        Table::States => 1,
-        Table::Rows => 2,
-        Table::Constants => 3,
+impl Table {
+    fn place(self) -> usize
+        ensures { result ≡ table_place self }
+    {
+        match self {
+            Table::States => 1,
+            Table::Rows => 2,
+            Table::Constants => 3,
+        }
     }
 }
 
-fn broken_place(broken: Broken) -> usize
-    ensures { result ≡ broken_place broken }
-{
-    match broken {
-        Broken::State(n) => 1000 + usize::from(n),
-        Broken::Kind(n) => 2000 + usize::from(n),
-        Broken::Row(n) => usize::from(n),
+impl Broken {
+    fn place(self) -> usize
+        ensures { result ≡ broken_place self }
+    {
+        match self {
+            Broken::State(n) => 1000 + usize::from(n),
+            Broken::Kind(n) => 2000 + usize::from(n),
+            Broken::Row(n) => usize::from(n),
+        }
     }
 }
 
@@ -68,8 +72,8 @@ impl Refusal {
         ensures { result ≡ (told_of self).place }
     {
         match self {
-            Refusal::TableTooLong { table } => table_place(table),
-            Refusal::RuleBroken { broken } => broken_place(broken),
+            Refusal::TableTooLong { table } => table.place(),
+            Refusal::RuleBroken { broken } => broken.place(),
             Refusal::Malformed { place }
             | Refusal::TooManyEvents { place }
             | Refusal::TooManyMoves { place }

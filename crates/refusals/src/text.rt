@@ -1,6 +1,6 @@
 // Refusals as text for people.
 ghost use Rattle.std.specs.Prelude.{Some};
-ghost use Rattle.refusals.specs.Telling.{layer_text};
+ghost use Rattle.refusals.specs.Telling.{broken_text, layer_text, refusal_text, table_text};
 
 use crate::refusal::{Broken, Layer, Refusal, Table};
 use std::fmt;
@@ -18,32 +18,37 @@ impl fmt::Display for Layer {
     }
 }
 
-fn table_name(table: Table) -> &'static str {
-    match table {
-        Table::States => "states",
-        Table::Rows => "rows",
-        Table::Constants => "constants",
+impl fmt::Display for Table {
+    ghost output = { λ t. Some (table_text t) };
+
+    fn fmt<W: fmt::Write>(&self, f: &mut fmt::Formatter<W>) -> fmt::Result {
+        match self {
+            Table::States => f.write_str("states"),
+            Table::Rows => f.write_str("rows"),
+            Table::Constants => f.write_str("constants"),
+        }
     }
 }
 
-fn show_broken<W: fmt::Write>(broken: Broken, f: &mut fmt::Formatter<W>) -> fmt::Result {
-    match broken {
-        Broken::State(n) => write!(f, "state {n} breaks a rule of sheets"),
-        Broken::Kind(n) => write!(f, "event kind {n} breaks a rule of sheets"),
-        Broken::Row(n) => write!(f, "row {n} breaks a rule of sheets"),
-    }
-}
+impl fmt::Display for Broken {
+    ghost output = { λ b. Some (broken_text b) };
 
-fn show_table<W: fmt::Write>(table: Table, f: &mut fmt::Formatter<W>) -> fmt::Result {
-    let name = table_name(table);
-    write!(f, "there are too many {name}")
+    fn fmt<W: fmt::Write>(&self, f: &mut fmt::Formatter<W>) -> fmt::Result {
+        match self {
+            Broken::State(n) => write!(f, "state {n}"),
+            Broken::Kind(n) => write!(f, "event kind {n}"),
+            Broken::Row(n) => write!(f, "row {n}"),
+        }
+    }
 }
 
 impl fmt::Display for Refusal {
+    ghost output = { λ r. Some (refusal_text r) };
+
     fn fmt<W: fmt::Write>(&self, f: &mut fmt::Formatter<W>) -> fmt::Result {
         match *self {
-            Refusal::TableTooLong { table } => show_table(table, f),
-            Refusal::RuleBroken { broken } => show_broken(broken, f),
+            Refusal::TableTooLong { table } => write!(f, "there are too many {table}"),
+            Refusal::RuleBroken { broken } => write!(f, "{broken} breaks a rule of sheets"),
             Refusal::InitialStates => {
                 f.write_str("no state is initial, or an initial state has parameters")
             }

@@ -1,6 +1,5 @@
 // A session over one kind of value: what a `sheet` line begins.
-ghost use Rattle.sessionbooks.specs.Meaning.{SessionRight};
-ghost use Rattle.sessionbooks.specs.Props.{SessionRight-prop};
+ghost use Rattle.replay.specs.Lines.{ShorterIfSome};
 
 use answers::{Fault, Output, report, show_batch, show_keyed, show_refusal, show_written};
 use commands::{Command, command_of};
@@ -11,7 +10,7 @@ use std::alloc::Global;
 use std::io;
 use std::io::Write;
 use tables::Tables;
-use values::{Bucketed, Value};
+use values::Bucketed;
 
 // Where the lines under one sheet stop.
 #[derive(Drop)]
@@ -20,8 +19,6 @@ pub enum Stop<V: Copy> {
     Loaded(Tables<V>),
     // Another session begins.
     Session(ValueKind),
-    // The script ends.
-    End,
 }
 
 #[derive(Drop)]
@@ -30,8 +27,6 @@ pub struct Session<V: Bucketed> {
     tables: Tables<V>,
     // The books that the script has made.
     kept: SessionBooks<V>,
-    // They stand on shelves that are rightly made.
-    ghost right: { SessionRight V.Value.order V.Bucketed.bucket_of V.Value.blank kept } by { SessionRight-prop V.Value.order V.Bucketed.bucket_of V.Value.blank kept },
 }
 
 impl<V: ScriptValue + Bucketed> Session<V> {
@@ -96,24 +91,23 @@ impl<V: ScriptValue + Bucketed> Session<V> {
         }
     }
 
-    // Obeys lines under a sheet, until another is loaded, another session begins or the script ends.
+    // Obeys lines under a sheet, until another is loaded or another session begins, or else to the script's end.
     pub fn run(
         &mut self,
         rt: &HostRuntime,
         out: &mut Output,
         script: &mut Script,
         sheet: &Sheet<V>,
-    ) -> io::Result<Stop<V>> {
-        for _ in 0..script.most_lines() {
-            let Some(line) = script.next_line() else {
-                return Ok(Stop::End);
-            };
+    ) -> io::Result<Option<Stop<V>>>
+        ensures { ShorterIfSome result script.old.left.now script.new.left.now }
+    {
+        while let Some(line) = script.next_line() {
             match self.obey(rt, out, sheet, line) {
                 Ok(None) => {}
-                Ok(Some(stop)) => return Ok(stop),
+                Ok(Some(stop)) => return Ok(Some(stop)),
                 Err(fault) => report(out, script.number(), fault)?,
             }
         }
-        Ok(Stop::End)
+        Ok(None)
     }
 }

@@ -1,6 +1,8 @@
 // A script as sessions, one behind the other.
+ghost use Rattle.replay.specs.Lines.{ShorterIfSome};
+
 use crate::session::{Session, Stop};
-use answers::{Fault, Output, report};
+use answers::{Output, report};
 use scripts::{Line, Misfit, Script, ScriptValue, ValueKind, line_of, words_of};
 use sheets::{LoadError, Sheet};
 use std::alloc::{AllocError, Global};
@@ -25,14 +27,11 @@ fn first_session(
     out: &mut Output,
     script: &mut Script,
 ) -> io::Result<Option<ValueKind>> {
-    for _ in 0..script.most_lines() {
-        let Some(line) = script.next_line() else {
-            return Ok(None);
-        };
+    while let Some(line) = script.next_line() {
         match opening(heap, line) {
             Ok(None) => {}
             Ok(Some(kind)) => return Ok(Some(kind)),
-            Err(misfit) => report(out, script.number(), Fault::Misfit(misfit))?,
+            Err(misfit) => report(out, script.number(), misfit.into())?,
         }
     }
     Ok(None)
@@ -57,7 +56,9 @@ fn run_on<V: ScriptValue + Bucketed>(
     script: &mut Script,
     session: &mut Session<V>,
     tables: &Tables<V>,
-) -> io::Result<Stop<V>> {
+) -> io::Result<Option<Stop<V>>>
+    ensures { ShorterIfSome result script.old.left.now script.new.left.now }
+{
     let heap = rt.alloc();
     let mut sheet = Sheet::new(heap);
     stand(heap, tables, &mut sheet)?;
@@ -69,15 +70,16 @@ fn session<V: ScriptValue + Bucketed>(
     rt: &HostRuntime,
     out: &mut Output,
     script: &mut Script,
-) -> io::Result<Option<ValueKind>> {
+) -> io::Result<Option<ValueKind>>
+    ensures { ShorterIfSome result script.old.left.now script.new.left.now }
+{
     let heap = rt.alloc();
     let mut session = Session::<V>::new(heap);
     let mut standing = Tables::new(heap);
-    for _ in 0..=script.most_lines() {
-        match run_on(rt, out, script, &mut session, &standing)? {
+    while let Some(stop) = run_on(rt, out, script, &mut session, &standing)? {
+        match stop {
             Stop::Loaded(tables) => standing = tables,
             Stop::Session(kind) => return Ok(Some(kind)),
-            Stop::End => return Ok(None),
         }
     }
     Ok(None)
@@ -89,7 +91,9 @@ fn session_of(
     out: &mut Output,
     script: &mut Script,
     kind: ValueKind,
-) -> io::Result<Option<ValueKind>> {
+) -> io::Result<Option<ValueKind>>
+    ensures { ShorterIfSome result script.old.left.now script.new.left.now }
+{
     writeln!(out, "sheet {kind}")?;
     match kind {
         ValueKind::Numbers => session::<Number>(rt, out, script),
@@ -100,11 +104,8 @@ fn session_of(
 // Runs a script to its end.
 pub fn replay(rt: &HostRuntime, out: &mut Output, script: &mut Script) -> io::Result<()> {
     let mut next = first_session(rt.alloc(), out, script)?;
-    for _ in 0..=script.most_lines() {
-        match next {
-            Some(kind) => next = session_of(rt, out, script, kind)?,
-            None => return Ok(()),
-        }
+    while let Some(kind) = next {
+        next = session_of(rt, out, script, kind)?;
     }
     Ok(())
 }

@@ -1,7 +1,6 @@
 // Cells in a script: the field's number, then what is wanted of it.
 ghost use Rattle.std.specs.Prelude.{◌≡◌};
-ghost use Rattle.scripts.specs.Decimals.{byte_in, number_in};
-ghost use Rattle.rowwords.specs.Cells.{any_in, cell_in, cell_of, want_in};
+ghost use Rattle.rowwords.specs.Cells.{any_in, cell_in, want_in};
 ghost use Rattle.wordcounts.specs.Counts.{no_words};
 ghost use Rattle.scripts.specs.Lines.{texts};
 
@@ -31,22 +30,15 @@ fn want(word: &str, rest: &[&str]) -> Result<Want, Misfit>
     }
 }
 
-// The cell of a field's number and what is wanted.
-fn cell_of(field: &str, word: &str, rest: &[&str]) -> Result<Cell, Misfit>
-    ensures { result ≡ cell_of (byte_in (number_in field.now)) (want_in word.now (texts rest.now)) }
-{
-    Ok(Cell {
-        field: byte(field)?,
-        want: want(word, rest)?,
-    })
-}
-
 // The cell that some words write.
 pub fn cell(words: &[&str]) -> Result<Cell, Misfit>
     ensures { result ≡ cell_in (texts words.now) }
 {
     match words {
-        [field, word, rest @ ..] => cell_of(field, word, rest),
+        [field, word, rest @ ..] => Ok(Cell {
+            field: byte(field)?,
+            want: want(word, rest)?,
+        }),
         _ => Err(Misfit::MissingWord),
     }
 }

@@ -2,21 +2,10 @@
 ghost use Rattle.std.specs.Prelude.{◌≡◌, ◌<◌, drop, slice_index};
 ghost use Rattle.scripts.specs.Decimals.{byte_in, number_in};
 ghost use Rattle.scripts.specs.Lines.{texts};
-ghost use Rattle.rowwords.specs.Patterns.{argument_in, arguments_in, lettered, one_of, pattern_in, pattern_of, three_of, two_of};
+ghost use Rattle.rowwords.specs.Patterns.{argument_in, arguments_in, lettered, pattern_in, three_of, two_of};
 
 use scripts::{Misfit, byte};
 use sheets::{Argument, Arguments, Pattern};
-
-// The first letter of a word, or 0 where there is none.
-fn letter_of(word: &str) -> u8
-    ensures { result ≡ slice_index word.now 0 }
-{
-    if word.is_empty() {
-        0
-    } else {
-        word.as_bytes()[0]
-    }
-}
 
 // The byte that a word writes behind its first letter, which is of ASCII.
 fn behind_letter(word: &str) -> Result<u8, Misfit>
@@ -30,10 +19,10 @@ fn behind_letter(word: &str) -> Result<u8, Misfit>
 fn numbered(word: &str) -> Result<Argument, Misfit>
     ensures { result ≡ lettered (slice_index word.now 0) (byte_in (number_in (drop 1 word.now))) }
 {
-    match letter_of(word) {
-        b'c' => Ok(Argument::Constant(behind_letter(word)?)),
-        b'p' => Ok(Argument::Own(behind_letter(word)?)),
-        b's' => Ok(Argument::Slot(behind_letter(word)?)),
+    match word.as_bytes() {
+        [b'c', ..] => Ok(Argument::Constant(behind_letter(word)?)),
+        [b'p', ..] => Ok(Argument::Own(behind_letter(word)?)),
+        [b's', ..] => Ok(Argument::Slot(behind_letter(word)?)),
         _ => Err(Misfit::NotAnArgument),
     }
 }
@@ -47,13 +36,6 @@ fn argument(word: &str) -> Result<Argument, Misfit>
     } else {
         numbered(word)
     }
-}
-
-// One argument.
-fn one(a: &str) -> Result<Arguments, Misfit>
-    ensures { result ≡ one_of (argument_in a.now) }
-{
-    Ok(Arguments::One(argument(a)?))
 }
 
 // Two arguments.
@@ -76,21 +58,11 @@ fn arguments(words: &[&str]) -> Result<Arguments, Misfit>
 {
     match words {
         [] => Ok(Arguments::Nothing),
-        [a] => one(a),
+        [a] => Ok(Arguments::One(argument(a)?)),
         [a, b] => two(a, b),
         [a, b, c] => three(a, b, c),
         _ => Err(Misfit::TooManyArguments),
     }
-}
-
-// The pattern of a state's number and some arguments.
-fn pattern_of(state: &str, rest: &[&str]) -> Result<Pattern, Misfit>
-    ensures { result ≡ pattern_of (byte_in (number_in state.now)) (arguments_in (texts rest.now)) }
-{
-    Ok(Pattern {
-        state: byte(state)?,
-        arguments: arguments(rest)?,
-    })
 }
 
 // The pattern that some words write.
@@ -99,6 +71,9 @@ pub fn pattern(words: &[&str]) -> Result<Pattern, Misfit>
 {
     match words {
         [] => Err(Misfit::MissingWord),
-        [state, rest @ ..] => pattern_of(state, rest),
+        [state, rest @ ..] => Ok(Pattern {
+            state: byte(state)?,
+            arguments: arguments(rest)?,
+        }),
     }
 }

@@ -500,12 +500,14 @@ module _ {V : Type 0} (K : ValueKind V) (s : SheetModel V) where
           Tallying n
           (Ok
           (record {
-            started = h Starts n l i;
-            asked = h Asks n l i;
-            repeats = h Repeats n l i;
-            fired = h FiredOut n l i;
-            lapsed = h LapsedOut n l i;
-            struck = h StruckOut n l i;
+            kept = record {
+              started = h Starts n l i;
+              asked = h Asks n l i;
+              repeats = h Repeats n l i;
+              fired = h FiredOut n l i;
+              lapsed = h LapsedOut n l i;
+              struck = h StruckOut n l i;
+            };
             «open» = how_many (named n) b.items;
           })))
 

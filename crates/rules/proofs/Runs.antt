@@ -21,7 +21,6 @@ use Rattle.rules.specs.Law.{SoundSheet, KeyedSheet, aside, settled, ruled_findin
 use Rattle.rules.specs.Step.{in_set, Found, numbered_as, moves_at, faults_at, set_after}
 use Rattle.rules.specs.declared.finding.Finding.{Finding}
 use Rattle.rules.proofs.Effect.{IsSet, read_by, ascending-new, after-own, after-other}
-use Rattle.rules.proofs.Facts.{sound-inits}
 use Rattle.rules.proofs.Lists.{kept-all, kept-none, kept-alike, kept-within}
 use Rattle.rules.proofs.Sets.{same, same-eq, same_refl, held_kept, equal-sets}
 use Rattle.rules.proofs.Slice.{slice-faults}
@@ -189,15 +188,6 @@ module _ {V : Type 0} (K : ValueKind V) (T : TotalOrder K.order) (s : SheetModel
           → AllByRecursion (λ (x : Item V). (state_of s.states x.name).parameters ≡ 0) (inits_from K n (d ∷ ds))
       go true e ih = rw e (sym (ap (λ (c : State). c.parameters) here) ∙ h.0 e, ih)
       go false e ih = rw e ih
-
-  inits-read : SoundSheet s → (k : V) → kept (read_by K T s k) (init_items K s) ≡ init_items K s
-  unfolding read_by
-  inits-read sound k =
-      kept-all (read_by K T s k) (init_items K s)
-      (All-weaker
-      (λ (x : Item V). (state_of s.states x.name).parameters ≡ 0)
-      (λ x. read_by K T s k x ≡ true) (λ x h. rw h) (init_items K s)
-      (plain-from 0 s.states (λ i. ap (state_of s.states) (omega arith)) (sound-inits s sound)))
 
   module _ (sound : SoundSheet s) (keyed : KeyedSheet s) where
     settled-slice : (k : V) (F : List (Item V)) (es : List (Event V)) → IsSet K F

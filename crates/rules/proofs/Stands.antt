@@ -265,12 +265,14 @@ module _ {V : Type 0} (K : ValueKind V) (T : TotalOrder K.order) (s : SheetModel
               λ n l.
               λ i.
               record {
-                started = each Starts n l i;
-                asked = each Asks n l i;
-                repeats = each Repeats n l i;
-                fired = each FiredOut n l i;
-                lapsed = each LapsedOut n l i;
-                struck = each StruckOut n l i;
+                kept = record {
+                  started = each Starts n l i;
+                  asked = each Asks n l i;
+                  repeats = each Repeats n l i;
+                  fired = each FiredOut n l i;
+                  lapsed = each LapsedOut n l i;
+                  struck = each StruckOut n l i;
+                };
                 «open» = how_many (named n) (items i);
               };
         }

@@ -138,12 +138,14 @@ module _ {V : Type 0} where
   -- the seven counts of a name; open is counted from the shelf
   abbrev pub counts_of : BookModel V → ℕ → Counts
   counts_of b n = record {
-    started = b.counts Starts n;
-    asked = b.counts Asks n;
-    repeats = b.counts Repeats n;
-    fired = b.counts FiredOut n;
-    lapsed = b.counts LapsedOut n;
-    struck = b.counts StruckOut n;
+    kept = record {
+      started = b.counts Starts n;
+      asked = b.counts Asks n;
+      repeats = b.counts Repeats n;
+      fired = b.counts FiredOut n;
+      lapsed = b.counts LapsedOut n;
+      struck = b.counts StruckOut n;
+    };
     «open» = how_many (named n) b.items;
   }
 

@@ -56,7 +56,7 @@ finding_at n f x = record { event = n; fault = f; item = x } ∷ []
 
 -- asked twice, once as a repeat, and once open
 abbrev pub twice : Counts
-twice = record { started = 0; asked = 2; repeats = 1; fired = 0; lapsed = 0; struck = 0; «open» = 1 }
+twice = record { kept = record { started = 0; asked = 2; repeats = 1; fired = 0; lapsed = 0; struck = 0 }; «open» = 1 }
 
 -- the book after so many events of one day: sent(7, 40) twice, and confirmed(7) three times
 abbrev pub day : ℕ → BookModel Number

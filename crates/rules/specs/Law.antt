@@ -235,7 +235,7 @@ module _ {V : Type 0} where
       abbrev pub Balanced : Point view → Type 0
       Balanced p = (n : ℕ) → n < 32 →
           let c = counts_of (view p.book) n in
-          c.started + c.asked ≡ c.repeats + c.fired + c.lapsed + c.struck + c.«open»
+          c.kept.started + c.kept.asked ≡ c.kept.repeats + c.kept.fired + c.kept.lapsed + c.kept.struck + c.«open»
 
     -- Two points, of two uses under one sheet.
     module _ {B B' : Type 0} {view : B → BookModel V} {view' : B' → BookModel V} (p : Point view) (q : Point view') where

@@ -9,3 +9,4 @@ pub mod Report
 pub mod Step
 pub mod Tallies
 pub mod Wire
+pub mod Texts

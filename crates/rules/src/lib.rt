@@ -8,6 +8,7 @@ mod finding;
 mod moves;
 mod phase;
 mod tallies;
+mod text;
 mod theorems;
 
 pub use answers::{Accepted, Batched};

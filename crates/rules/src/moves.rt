@@ -2,7 +2,7 @@
 use items::Item;
 
 // Why an item is moved.
-#[derive(Clone, Copy)]
+#[derive(Clone, Copy, PartialEq, Eq)]
 pub enum Cause {
     // a row of it fired, so it leaves
     Fired,

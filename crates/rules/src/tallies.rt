@@ -1,9 +1,9 @@
 // What is counted for each state name.
 ghost use Rattle.std.specs.Prelude.{◌≡◌};
-ghost use Rattle.rules.specs.Tallies.{no_tally, tally_sum};
+ghost use Rattle.rules.specs.Tallies.{tally_sum};
 
-// The six counts that a book keeps for a name.
-#[derive(Clone, Copy)]
+// The six counts that a book keeps for a name; by default nothing is counted.
+#[derive(Clone, Copy, PartialEq, Eq, Default)]
 pub struct Tally {
     // init items put in
     pub started: u128,
@@ -20,20 +20,6 @@ pub struct Tally {
 }
 
 impl Tally {
-    // Nothing counted.
-    pub fn none() -> Tally
-        ensures { result ≡ no_tally }
-    {
-        Tally {
-            started: 0,
-            asked: 0,
-            repeats: 0,
-            fired: 0,
-            lapsed: 0,
-            struck: 0,
-        }
-    }
-
     // Adds what was counted; a count that would not fit stops at the largest.
     pub fn add(&mut self, more: Tally)
         ensures { self.new ≡ tally_sum self.old more }
@@ -48,13 +34,8 @@ impl Tally {
 }
 
 // The seven counts that are told of a name: those that a book keeps, and how many of its items are open.
-#[derive(Clone, Copy)]
+#[derive(Clone, Copy, PartialEq, Eq)]
 pub struct Counts {
-    pub started: u128,
-    pub asked: u128,
-    pub repeats: u128,
-    pub fired: u128,
-    pub lapsed: u128,
-    pub struck: u128,
+    pub kept: Tally,
     pub open: u128,
 }

@@ -1,7 +1,7 @@
 // Functions that carry theorems in their contracts.
 ghost use Rattle.rules.specs.Book.{BookModel};
 ghost use Rattle.rules.specs.Cases.{Cases};
-ghost use Rattle.rules.specs.Kinds.{values_by};
+ghost use Rattle.rules.specs.Kinds.{value_kind};
 ghost use Rattle.rules.specs.Law.{Law};
 
 use values::Value;
@@ -16,7 +16,7 @@ pub trait Viewed {
 
 // Carries the law: of every kind of value, and of the books of any two types.
 pub fn law_holds<S: Viewed, T: Viewed<Of = S::Of>>() -> u8
-    ensures { Law (values_by S.Of.Value.order S.Of.Value.blank S.Of.Value.reads) S.Viewed.view T.Viewed.view }
+    ensures { Law (value_kind S.Of.Value) S.Viewed.view T.Viewed.view }
 {
     0
 }

@@ -24,9 +24,3 @@ turn all xs ys left b rest inv two is ys-is rest-is =
     let f : Option ℕ → Option (List ℕ) = λ o. option_map (λ bs. xs ++ bs) (before o (bytes_of (drop 2 left))) in
     let e : P (xs ++ b ∷ []) (drop 2 left) = inv ∙ ap (option_map (λ bs. xs ++ bs)) (two-in-front left two) ∙ ap f (sym is) ∙ one_more xs b (bytes_of (drop 2 left)) in
     subst (λ us. P us rest) (sym ys-is) (subst (λ vs. P (xs ++ b ∷ []) vs) (sym rest-is) e)
-
--- before the first turn
-pub begin : (all xs left : List ℕ) → xs ≡ [] → left ≡ all → bytes_of all ≡ option_map (λ bs. xs ++ bs) (bytes_of left)
-begin all xs left xs-is left_is =
-    let P : List ℕ → List ℕ → Type 0 = λ us vs. bytes_of all ≡ option_map (λ bs. us ++ bs) (bytes_of vs) in
-    subst (λ us. P us left) (sym xs-is) (subst (λ vs. P [] vs) (sym left_is) (none_yet (bytes_of all)))

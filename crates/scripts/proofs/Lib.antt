@@ -1,5 +1,2 @@
 pub mod DigitSteps
 pub mod HexSteps
-pub mod LineSteps
-pub mod PlaceSteps
-pub mod WordMeanings

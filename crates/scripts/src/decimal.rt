@@ -1,6 +1,7 @@
 // Words as numbers: decimal digits alone, so no sign.
 ghost use Rattle.std.specs.Prelude.{◌≡◌};
-ghost use Rattle.std.specs.Str.{all_ascii_digits};
+ghost use Rattle.std.specs.Char.{is_ascii_digit};
+ghost use Rattle.std.specs.List.{list_all};
 ghost use Rattle.scripts.specs.Decimals.{byte_in, is_decimal, number_in, room_in, room_of};
 
 use crate::misfit::Misfit;
@@ -10,14 +11,9 @@ const MOST_ROOM: u64 = 1_000_000;
 
 // Whether all bytes are digits.
 fn all_digits(bytes: &[u8]) -> bool
-    ensures { result ≡ all_ascii_digits bytes.now }
+    ensures { result ≡ list_all is_ascii_digit bytes.now }
 {
-    for b in bytes {
-        if !b.is_ascii_digit() {
-            return false;
-        }
-    }
-    true
+    bytes.iter().all(|b| b.is_ascii_digit())
 }
 
 // Whether a word is one digit or more, and nothing else.
@@ -34,21 +30,14 @@ pub fn number(word: &str) -> Result<u64, Misfit>
     if !is_decimal(word) {
         return Err(Misfit::NotANumber);
     }
-    match word.parse::<u64>() {
-        Ok(n) => Ok(n),
-        Err(_) => Err(Misfit::NumberTooLarge),
-    }
+    word.parse::<u64>().map_err(|_| Misfit::NumberTooLarge)
 }
 
 // The number that a word writes, where a byte holds it.
 pub fn byte(word: &str) -> Result<u8, Misfit>
     ensures { result ≡ byte_in (number_in word.now) }
 {
-    let n = number(word)?;
-    if n > 255 {
-        return Err(Misfit::NumberTooLarge);
-    }
-    Ok(n as u8)
+    u8::try_from(number(word)?).map_err(|_| Misfit::NumberTooLarge)
 }
 
 // As many places as a buffer may have.

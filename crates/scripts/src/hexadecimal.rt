@@ -1,11 +1,10 @@
-// Words as bytes and bytes as words: two hexadecimal digits to a byte, the high one first.
+// Words as bytes: two hexadecimal digits to a byte, the high one first.
 ghost use Rattle.std.specs.Prelude.{◌≡◌, ◌<◌, ◌⊎◌, IfSome, Some, None, MatchResult};
 ghost use Rattle.scripts.specs.declared.misfit.Misfit.TheVariants.{NoMemory, NotHexadecimal};
 ghost use Rattle.scripts.specs.Hexadecimals.{byte_of, bytes_of, digit_of};
 
 use crate::misfit::Misfit;
 use std::alloc::Global;
-use std::fmt;
 
 // The value of a hexadecimal digit, of either case.
 fn digit_of(digit: u8) -> Option<u8>
@@ -24,10 +23,7 @@ fn digit_of(digit: u8) -> Option<u8>
 fn byte_of(high: u8, low: u8) -> Option<u8>
     ensures { result ≡ byte_of high low }
 {
-    match (digit_of(high), digit_of(low)) {
-        (Some(h), Some(l)) => Some(16 * h + l),
-        _ => None,
-    }
+    Some(16 * digit_of(high)? + digit_of(low)?)
 }
 
 // The bytes that a word writes.
@@ -37,30 +33,12 @@ pub fn bytes_of(heap: Global, word: &str) -> Result<Vec<u8>, Misfit>
     let mut bytes = Vec::new(heap);
     let mut left = word.as_bytes();
     while let [high, low, rest @ ..] = left {
-        let Some(byte) = byte_of(*high, *low) else {
-            return Err(Misfit::NotHexadecimal);
-        };
-        bytes.push(byte)?;
+        bytes.push(byte_of(*high, *low).ok_or(Misfit::NotHexadecimal)?)?;
         left = rest;
     }
     if left.is_empty() {
         Ok(bytes)
     } else {
         Err(Misfit::NotHexadecimal)
-    }
-}
-
-// Bytes as a word, in lower case.
-#[derive(Clone, Copy)]
-pub struct Hex<'a> {
-    pub bytes: &'a [u8],
-}
-
-impl<'a> fmt::Display for Hex<'a> {
-    fn fmt<W: fmt::Write>(&self, f: &mut fmt::Formatter<W>) -> fmt::Result {
-        for b in self.bytes {
-            write!(f, "{b:02x}")?;
-        }
-        Ok(())
     }
 }

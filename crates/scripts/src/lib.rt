@@ -12,9 +12,10 @@ mod text;
 mod value;
 
 pub use decimal::{byte, room};
-pub use hexadecimal::{Hex, bytes_of};
+pub use hexadecimal::bytes_of;
 pub use line::{Line, ValueKind, line_of, words_of};
 pub use misfit::Misfit;
-pub use posting::{Posting, event_of};
+pub use posting::event_of;
 pub use script::Script;
 pub use value::ScriptValue;
+pub use values::text::Hex;

@@ -1,6 +1,6 @@
 // A line of a script: its words, and whether it begins a session.
 ghost use Rattle.std.specs.Prelude.{◌≡◌};
-ghost use Rattle.scripts.specs.Lines.{headed_by, is_remark, kind_in, line_of, session_of, sheet_of, texts};
+ghost use Rattle.scripts.specs.Lines.{headed_by, is_remark, kind_in, line_of, sheet_of, texts};
 
 use crate::misfit::Misfit;
 use std::alloc::Global;
@@ -25,26 +25,26 @@ pub enum Line {
 
 // The words of a line, which spaces, tabs and carriage returns part.
 pub fn words_of(heap: Global, line: &[u8]) -> Result<Vec<&str>, Misfit> {
-    let Ok(text) = std::str::from_utf8(line) else {
-        return Err(Misfit::NotText);
-    };
-    let mut words = Vec::new(heap);
-    for word in text.split([' ', '\t', '\r']) {
-        if !word.is_empty() {
-            words.push(word)?;
-        }
-    }
+    let text = std::str::from_utf8(line).map_err(|_| Misfit::NotText)?;
+    let words = text
+        .split([' ', '\t', '\r'])
+        .filter(|word| !word.is_empty())
+        .collect(heap)?;
     Ok(words)
 }
 
-// The kind of value that a word names.
-fn value_kind(word: &str) -> Result<ValueKind, Misfit>
-    ensures { result ≡ kind_in word.now }
-{
-    match word {
-        "numbers" => Ok(ValueKind::Numbers),
-        "references" => Ok(ValueKind::References),
-        _ => Err(Misfit::NotAKindOfValue),
+impl TryFrom<&str> for ValueKind {
+    type Error = Misfit;
+
+    // The kind of value that a word names.
+    fn try_from(word: &str) -> Result<ValueKind, Misfit>
+        ensures { result ≡ kind_in word.now }
+    {
+        match word {
+            "numbers" => Ok(ValueKind::Numbers),
+            "references" => Ok(ValueKind::References),
+            _ => Err(Misfit::NotAKindOfValue),
+        }
     }
 }
 
@@ -52,14 +52,7 @@ fn value_kind(word: &str) -> Result<ValueKind, Misfit>
 fn is_remark(word: &str) -> bool
     ensures { result ≡ is_remark word.now }
 {
-    !word.is_empty() && word.as_bytes()[0] == b'#'
-}
-
-// A new session of the kind that a word names.
-fn session(kind: &str) -> Result<Line, Misfit>
-    ensures { result ≡ session_of (kind_in kind.now) }
-{
-    Ok(Line::Sheet(value_kind(kind)?))
+    word.starts_with('#')
 }
 
 // What `sheet` asks for, by the words behind it.
@@ -68,7 +61,7 @@ fn sheet(words: &[&str]) -> Result<Line, Misfit>
 {
     match words {
         [] => Err(Misfit::MissingWord),
-        [kind] => session(kind),
+        [kind] => Ok(Line::Sheet(ValueKind::try_from(*kind)?)),
         _ => Err(Misfit::TooManyWords),
     }
 }

@@ -1,4 +1,4 @@
-// Events in a script: the kind, then each field as its number, `=` and its value.
+// Words as events: the kind, then each field as its number, `=` and its value.
 ghost use Rattle.std.specs.Prelude.{◌≡◌, ◌-◌, is_ok, IfOk, if◌then◌else◌, Some, Ok, slice_set};
 ghost use Rattle.records.specs.Fields.{fields_of};
 ghost use Rattle.scripts.specs.Decimals.{byte_in, number_in};
@@ -9,7 +9,6 @@ use crate::misfit::Misfit;
 use crate::value::ScriptValue;
 use records::Event;
 use std::alloc::Global;
-use std::fmt;
 
 // Sets a field that the event does not have yet.
 fn set_once<V: Copy>(event: &mut Event<V>, number: u8, value: V) -> Result<(), Misfit>
@@ -31,9 +30,7 @@ fn set_once<V: Copy>(event: &mut Event<V>, number: u8, value: V) -> Result<(), M
 fn give<V: ScriptValue>(heap: Global, event: &mut Event<V>, word: &str) -> Result<(), Misfit>
     ensures { event.new.kind ≡ event.old.kind }
 {
-    let Some((number, value)) = word.split_once('=') else {
-        return Err(Misfit::NotAField);
-    };
+    let (number, value) = word.split_once('=').ok_or(Misfit::NotAField)?;
     let number = byte(number)?;
     set_once(event, number, V::of_word(heap, value)?)
 }
@@ -51,35 +48,4 @@ pub fn event_of<V: ScriptValue>(
         give(heap, &mut event, word)?;
     }
     Ok(event)
-}
-
-// An event, to be shown in words.
-#[derive(Drop)]
-pub struct Posting<'a, V> {
-    pub event: &'a Event<V>,
-}
-
-fn show_field<V: ScriptValue, W: fmt::Write>(
-    event: &Event<V>,
-    number: u8,
-    f: &mut fmt::Formatter<W>,
-) -> fmt::Result {
-    match event.field(number) {
-        Some(value) => {
-            write!(f, " {number}=")?;
-            value.show(f)
-        }
-        None => Ok(()),
-    }
-}
-
-impl<'a, V: ScriptValue> fmt::Display for Posting<'a, V> {
-    fn fmt<W: fmt::Write>(&self, f: &mut fmt::Formatter<W>) -> fmt::Result {
-        let kind = self.event.kind;
-        write!(f, "{kind}")?;
-        for number in 1..9 {
-            show_field(self.event, number, f)?;
-        }
-        Ok(())
-    }
 }

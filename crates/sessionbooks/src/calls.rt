@@ -1,7 +1,6 @@
 // The calls of a book, and what they answer.
-ghost use Rattle.books.specs.View.{BookRight};
-
 use answers::{Fault, Output, show_batched, show_ended, show_listed, show_opened, show_put};
+use booklines::Rooms;
 use books::Book;
 use items::Shelf;
 use records::Event;
@@ -15,10 +14,7 @@ pub fn open<V: ScriptValue, S: Shelf<Of = V>>(
     out: &mut Output,
     sheet: &Sheet<V>,
     book: &mut Book<S>,
-) -> Result<(), Fault>
-    requires { BookRight S.Shelf.right book.old }
-    ensures { BookRight S.Shelf.right book.new }
-{
+) -> Result<(), Fault> {
     let answer = book.open(sheet);
     show_opened(out, answer)?;
     Ok(())
@@ -30,15 +26,11 @@ pub fn put<V: ScriptValue, S: Shelf<Of = V>>(
     out: &mut Output,
     sheet: &Sheet<V>,
     book: &mut Book<S>,
-    moves: usize,
-    findings: usize,
+    rooms: Rooms,
     event: &Event<V>,
-) -> Result<(), Fault>
-    requires { BookRight S.Shelf.right book.old }
-    ensures { BookRight S.Shelf.right book.new }
-{
-    let mut moves = move_room(heap, moves)?;
-    let mut findings = finding_room(heap, findings)?;
+) -> Result<(), Fault> {
+    let mut moves = move_room(heap, rooms.moves)?;
+    let mut findings = finding_room(heap, rooms.findings)?;
     let answer = book.put(sheet, event, moves.as_mut_slice(), findings.as_mut_slice());
     show_put(out, answer, moves.as_slice(), findings.as_slice())?;
     Ok(())
@@ -50,15 +42,11 @@ pub fn batch<V: ScriptValue, S: Shelf<Of = V>>(
     out: &mut Output,
     sheet: &Sheet<V>,
     book: &mut Book<S>,
-    moves: usize,
-    findings: usize,
+    rooms: Rooms,
     bytes: &[u8],
-) -> Result<(), Fault>
-    requires { BookRight S.Shelf.right book.old }
-    ensures { BookRight S.Shelf.right book.new }
-{
-    let mut moves = move_room(heap, moves)?;
-    let mut findings = finding_room(heap, findings)?;
+) -> Result<(), Fault> {
+    let mut moves = move_room(heap, rooms.moves)?;
+    let mut findings = finding_room(heap, rooms.findings)?;
     let answer = book.batch(sheet, bytes, moves.as_mut_slice(), findings.as_mut_slice());
     show_batched(out, answer, moves.as_slice(), findings.as_slice())?;
     Ok(())
@@ -71,10 +59,7 @@ pub fn end<V: ScriptValue, S: Shelf<Of = V>>(
     sheet: &Sheet<V>,
     book: &mut Book<S>,
     findings: usize,
-) -> Result<(), Fault>
-    requires { BookRight S.Shelf.right book.old }
-    ensures { BookRight S.Shelf.right book.new }
-{
+) -> Result<(), Fault> {
     let mut findings = finding_room(heap, findings)?;
     let answer = book.end(sheet, findings.as_mut_slice());
     show_ended(out, answer, findings.as_slice())?;
@@ -87,9 +72,7 @@ pub fn list<V: ScriptValue, S: Shelf<Of = V>>(
     out: &mut Output,
     book: &Book<S>,
     room: usize,
-) -> Result<(), Fault>
-    requires { BookRight S.Shelf.right book.now }
-{
+) -> Result<(), Fault> {
     let mut room = item_room(heap, room)?;
     let count = book.list(room.as_mut_slice());
     show_listed(out, count, room.as_slice())?;

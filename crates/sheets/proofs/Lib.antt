@@ -1,3 +1,4 @@
 pub mod Loads
 pub mod Loops
+pub mod Present
 pub mod RowCells

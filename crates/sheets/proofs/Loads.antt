@@ -1,5 +1,7 @@
 -- Tables that are not refused are sound.
-use Rattle.std.proofs.Common.{◌≡◌, ℕ, Bool, true, false, cond, not, ltb, leb, List, [], length, replicate, is_some, Some, None, Option, sym, refl, ap, ◌∙◌, arith}
+use Rattle.std.proofs.Common.{◌≡◌, ℕ, ◌+◌, Bool, true, false, cond, not, ltb, leb, List, [], ◌∷◌, ◌&&◌, length, replicate, Some, None, Ok, Option, sym, refl, ap, ◌∙◌, arith}
+use Rattle.std.proofs.lemmas.Iterator.Adapters.{position_from-zero}
+use Rattle.std.specs.List.{position_from}
 use Rattle.std.proofs.lemmas.Bool.{and_from, and_parts, le-leb, ltb-false}
 use Rattle.refusals.specs.declared.refusal.Refusal.{Refusal}
 use Rattle.refusals.specs.declared.refusal.Refusal.TheVariants.{TableTooLong, InitialStates}
@@ -9,12 +11,13 @@ use Rattle.refusals.specs.declared.refusal.Broken.TheVariants as broken
 use Rattle.sheets.specs.declared.tables.State.{State}
 use Rattle.sheets.specs.declared.tables.Row.{Row}
 use Rattle.sheets.specs.declared.tables.EventKind.{EventKind}
+use Rattle.refusals.proofs.Answered.{answered_yes}
+use Rattle.refusals.specs.Telling.{answer_of}
 use Rattle.sheets.specs.Loading.{broken_at, broken_rule, initials, load_refusal, or_else, too_long}
 use Rattle.sheets.specs.Sound.{sound_init, sound_kind, sound_row, sound_state, sound_tables}
 use Rattle.sheets.specs.Keyed.{keyed_tables}
 use Rattle.sheets.specs.Tables.{unwatched}
 use Rattle.sheets.specs.Words.{every, first_failing, some}
-use Rattle.sheets.proofs.Loops.{every-passes}
 
 neither : (a b : Option Refusal) → or_else a b ≡ None → (a ≡ None) × (b ≡ None)
 neither None b h = (refl, h)
@@ -32,8 +35,16 @@ none-broken : (b : ℕ → Broken) (o : Option ℕ) → broken_at b o ≡ None �
 none-broken b None h = refl
 none-broken b (Some n) h = let z : ◌≡◌ {A = ℕ} 0 1 = cc in absurd (omega arith)
 
-all_pass : {X : Type 0} (p : X → Bool) (xs : List X) → first_failing p 0 xs ≡ None → every p xs ≡ true
-all_pass p xs h = sym (every-passes p 0 xs) ∙ ap (λ o. not (is_some o)) h
+none-fails : {X : Type 0} (p : X → Bool) (n : ℕ) (xs : List X) → position_from (λ x. not (p x)) n xs ≡ None → every p xs ≡ true
+none-fails p n [] h = refl
+none-fails p n (x ∷ xs) h = by (p x) (none-fails p (n + 1) xs) h
+  where
+    by : (b : Bool) → (position_from (λ x. not (p x)) (n + 1) xs ≡ None → every p xs ≡ true) → cond (not b) (Some n) (position_from (λ x. not (p x)) (n + 1) xs) ≡ None → (b && every p xs) ≡ true
+    by true more e = more e
+    by false more e = let z : ◌≡◌ {A = ℕ} 0 1 = cc in absurd (omega arith)
+
+all_pass : {X : Type 0} (p : X → Bool) (xs : List X) → first_failing p xs ≡ None → every p xs ≡ true
+all_pass p xs h = none-fails p 0 xs (sym (position_from-zero (λ x. not (p x)) xs) ∙ h)
 
 at_most : (m n : ℕ) → ltb m n ≡ false → leb n m ≡ true
 at_most m n h = le-leb n m (ltb-false m n h)
@@ -47,8 +58,8 @@ module _ (states : List State) (rows : List Row) (kinds : List EventKind) (n : �
       let s = unless (ltb 32 (length states)) (TableTooLong States) _ a.0 in
       let r = unless (ltb 256 (length rows)) (TableTooLong Rows) _ s.1 in
       let c = unless (ltb 256 n) (TableTooLong Constants) None r.1 in
-      let d = neither (broken_at broken.State (first_failing sound_state 0 states)) _ b.0 in
-      let e = neither (broken_at broken.Kind (first_failing sound_kind 0 kinds)) _ d.1 in
+      let d = neither (broken_at broken.State (first_failing sound_state states)) _ b.0 in
+      let e = neither (broken_at broken.Kind (first_failing sound_kind kinds)) _ d.1 in
       let i = and_parts (some (λ (d : State). d.init) states) (every sound_init states) (passed _ InitialStates b.1) in
       and_from _ _ (at_most 32 (length states) s.0)
       (and_from _ _ (at_most 256 (length rows) r.0)
@@ -58,9 +69,9 @@ module _ (states : List State) (rows : List Row) (kinds : List EventKind) (n : �
       (and_from _ _ (all_pass (sound_row states n) rows (none-broken _ _ e.1)) i.1)))))
 
 -- copies of tables that are not refused, and of which it was found whether they are keyed
-pub copies-sound : (states xs : List State) (rows ys : List Row) (kinds : List EventKind) (n : ℕ) → xs ≡ states → ys ≡ rows → None ≡ load_refusal states rows kinds n → sound_tables xs ys kinds n ≡ true
+pub copies-sound : (states xs : List State) (rows ys : List Row) (kinds : List EventKind) (n : ℕ) → xs ≡ states → ys ≡ rows → Ok tt ≡ answer_of (load_refusal states rows kinds n) → sound_tables xs ys kinds n ≡ true
 copies-sound states xs rows ys kinds n p q h =
-    ap (λ l. sound_tables l ys kinds n) p ∙ ap (λ l. sound_tables states l kinds n) q ∙ load-sound states rows kinds n (sym h)
+    ap (λ l. sound_tables l ys kinds n) p ∙ ap (λ l. sound_tables states l kinds n) q ∙ load-sound states rows kinds n (sym (answered_yes _ h))
 
 pub copies-keyed : (states xs : List State) (rows ys : List Row) (kinds : List EventKind) (b : Bool) → xs ≡ states → ys ≡ rows → b ≡ keyed_tables states rows kinds → b ≡ keyed_tables xs ys kinds
 copies-keyed states xs rows ys kinds b p q h =

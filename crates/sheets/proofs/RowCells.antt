@@ -1,17 +1,11 @@
 -- The cells of a row, judged one after another.
 use Rattle.std.proofs.Common.{◌≡◌, ℕ, ◌+◌, ◌-◌, ◌<◌, ◌≤◌, Bool, true, false, ◌&&◌, List, [], ◌∷◌, ◌++◌, length, get_or, take, drop, Some, None, Option, sym, refl, ap, ◌∙◌}
 use native.Mathlib.Nat.{sub-zero}
-use Rattle.std.proofs.lemmas.List.{append-nil, drop_all, drop_more, take_more}
+use Rattle.std.proofs.lemmas.List.{append-nil, flat_map_more, drop_all, drop_more, take_more}
 use Rattle.std.specs.Option.{option_to_list}
 use Rattle.sheets.specs.declared.tables.Cell.{Cell}
 use Rattle.sheets.specs.Sound.{sound_cell, sound_cells}
 use Rattle.sheets.specs.Words.{every, present}
-
-present-append : {X : Type 0} (os : List (Option X)) (o : Option X) → present (os ++ (o ∷ [])) ≡ present os ++ option_to_list o
-present-append [] None = refl
-present-append [] (Some x) = refl
-present-append (None ∷ os) o = present-append os o
-present-append (Some x ∷ os) o = ap (λ l. x ∷ l) (present-append os o)
 
 -- one place more
 module _ (n p : ℕ) where
@@ -30,7 +24,7 @@ module _ (n p : ℕ) where
 
     next-cell : sound_cells n p [] (present os) ≡ (every (sound_cell n p (present (take i os))) (option_to_list o) && sound_cells n p (present (take (i + 1) os)) (present (drop (i + 1) os)))
     next-cell =
-        let front : present (take (i + 1) os) ≡ present (take i os) ++ option_to_list o = ap present (take_more os i None h) ∙ present-append (take i os) o in
+        let front : present (take (i + 1) os) ≡ present (take i os) ++ option_to_list o = ap present (take_more os i None h) ∙ sym (flat_map_more option_to_list [] (take i os) o) in
         so_far
         ∙ ap (λ l. sound_cells n p (present (take i os)) (present l)) (drop_more os i None h)
         ∙ place-next (present (take i os)) o (drop (i + 1) os)

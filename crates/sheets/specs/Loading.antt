@@ -1,5 +1,5 @@
 -- The first refusal of a load, in the order of judging.
-use Rattle.std.specs.Prelude.{ℕ, cond, ◌&&◌, List, length, Some, None, Option, nat_lt}
+use Rattle.std.specs.Prelude.{ℕ, cond, ◌&&◌, List, length, Some, None, Ok, Err, Option, Result, nat_lt}
 use Rattle.refusals.specs.declared.refusal.Refusal.{Refusal}
 use Rattle.refusals.specs.declared.refusal.Refusal.TheVariants.{TableTooLong, RuleBroken, InitialStates}
 use Rattle.refusals.specs.declared.refusal.Table.TheVariants.{States, Rows, Constants}
@@ -35,8 +35,8 @@ module _ (states : List State) (rows : List Row) (kinds : List EventKind) (n : �
   -- the first rule that is broken: of states, of kinds and of rows, each by number
   abbrev pub broken_rule : Option Refusal
   broken_rule =
-      or_else (broken_at broken.State (first_failing sound_state 0 states))
-      (or_else (broken_at broken.Kind (first_failing sound_kind 0 kinds)) (broken_at broken.Row (first_failing (sound_row states n) 0 rows)))
+      or_else (broken_at broken.State (first_failing sound_state states))
+      (or_else (broken_at broken.Kind (first_failing sound_kind kinds)) (broken_at broken.Row (first_failing (sound_row states n) rows)))
 
   -- why they are not loaded, if they are not: a table too long, a broken rule, the initial states
   abbrev pub load_refusal : Option Refusal

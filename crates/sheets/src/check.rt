@@ -1,90 +1,72 @@
 // The check of a sheet's tables.
 ghost use Rattle.std.specs.Prelude.{◌≡◌, ◌≤◌, length};
 ghost use Rattle.sheets.specs.Keyed.{keyed_tables};
+ghost use Rattle.refusals.specs.Telling.{answer_of};
 ghost use Rattle.sheets.specs.Loading.{broken_at, broken_rule, initials, load_refusal, too_long};
-ghost use Rattle.sheets.specs.Sound.{sound_kind, sound_row, sound_state};
-ghost use Rattle.sheets.specs.Words.{first_failing, some};
+ghost use Rattle.sheets.specs.Sound.{sound_init, sound_kind, sound_row, sound_state};
+ghost use Rattle.sheets.specs.Words.{every, first_failing, some};
 ghost use Rattle.sheets.specs.declared.tables.State.{State};
 ghost use Rattle.refusals.specs.declared.refusal.Broken.TheVariants as broken;
 
-use crate::each::{all_hold, first_failing};
-use crate::keying::{KeyedRow, KeyedState};
-use crate::rows::{NotInit, SoundInit, SoundKind, SoundRow, SoundState};
-use crate::tables::{EventKind, Row, State};
+use crate::keying::{rows_keyed, states_keyed};
+use crate::rows::{init_sound, kind_sound, row_sound, state_sound};
+use crate::tables::{EventKind, KINDS, MOST_CONSTANTS, MOST_ROWS, MOST_STATES, Row, State};
 use refusals::{Broken, Refusal, Table};
 
-// The most states, rows and constants of a sheet.
-const MOST_STATES: usize = 32;
-
-const MOST_ROWS: usize = 256;
-
-const MOST_CONSTANTS: usize = 256;
-
-// The first table that is too long.
-fn long_table(states: usize, rows: usize, constants: usize) -> Option<Refusal>
-    ensures { result ≡ too_long states rows constants }
+// No table is too long.
+fn check_lengths(states: usize, rows: usize, constants: usize) -> Result<(), Refusal>
+    ensures { result ≡ answer_of (too_long states rows constants) }
 {
-    if states > MOST_STATES {
-        Some(Refusal::TableTooLong {
-            table: Table::States,
-        })
+    let table = if states > MOST_STATES {
+        Table::States
     } else if rows > MOST_ROWS {
-        Some(Refusal::TableTooLong { table: Table::Rows })
+        Table::Rows
     } else if constants > MOST_CONSTANTS {
-        Some(Refusal::TableTooLong {
-            table: Table::Constants,
-        })
+        Table::Constants
     } else {
-        None
-    }
+        return Ok(());
+    };
+    Err(Refusal::TableTooLong { table })
 }
 
-// The first state that breaks a rule.
-fn broken_state(states: &[State]) -> Option<Refusal>
+// No state breaks a rule.
+fn check_states(states: &[State]) -> Result<(), Refusal>
     requires { length states.now ≤ 32 }
-    ensures { result ≡ broken_at broken.State (first_failing sound_state 0 states.now) }
+    ensures { result ≡ answer_of (broken_at broken.State (first_failing sound_state states.now)) }
 {
-    match first_failing(&SoundState, states) {
-        Some(n) => Some(Refusal::RuleBroken {
+    match states.iter().position(|state| !state_sound(state)) {
+        Some(n) => Err(Refusal::RuleBroken {
             broken: Broken::State(n as u8),
         }),
-        None => None,
+        None => Ok(()),
     }
 }
 
-// The first event kind that breaks a rule.
-fn broken_kind(kinds: &[EventKind; 64]) -> Option<Refusal>
-    ensures { result ≡ broken_at broken.Kind (first_failing sound_kind 0 kinds.now) }
+// No event kind breaks a rule.
+fn check_kinds(kinds: &[EventKind; KINDS]) -> Result<(), Refusal>
+    ensures { result ≡ answer_of (broken_at broken.Kind (first_failing sound_kind kinds.now)) }
 {
-    match first_failing(&SoundKind, kinds) {
-        Some(n) => Some(Refusal::RuleBroken {
+    match kinds.iter().position(|kind| !kind_sound(kind)) {
+        Some(n) => Err(Refusal::RuleBroken {
             broken: Broken::Kind(n as u8),
         }),
-        None => None,
+        None => Ok(()),
     }
 }
 
-// The first row that breaks a rule.
-fn broken_row(states: &[State], rows: &[Row], constants: usize) -> Option<Refusal>
+// No row breaks a rule.
+fn check_rows(states: &[State], rows: &[Row], constants: usize) -> Result<(), Refusal>
     requires { length rows.now ≤ 256 }
-    ensures { result ≡ broken_at broken.Row (first_failing (sound_row states.now constants) 0 rows.now) }
+    ensures { result ≡ answer_of (broken_at broken.Row (first_failing (sound_row states.now constants) rows.now)) }
 {
-    match first_failing(&SoundRow { states, constants }, rows) {
-        Some(n) => Some(Refusal::RuleBroken {
+    match rows
+        .iter()
+        .position(|row| !row_sound(states, constants, row))
+    {
+        Some(n) => Err(Refusal::RuleBroken {
             broken: Broken::Row(n as u8),
         }),
-        None => None,
-    }
-}
-
-// Whether the initial states are as they must be.
-fn bad_initials(states: &[State]) -> Option<Refusal>
-    ensures { result ≡ initials states.now }
-{
-    if has_init(states) && all_hold(&SoundInit, states) {
-        None
-    } else {
-        Some(Refusal::InitialStates)
+        None => Ok(()),
     }
 }
 
@@ -92,49 +74,59 @@ fn bad_initials(states: &[State]) -> Option<Refusal>
 fn has_init(states: &[State]) -> bool
     ensures { result ≡ some (λ (d : State). d.init) states.now }
 {
-    !all_hold(&NotInit, states)
+    states.iter().any(|state| state.init)
 }
 
-// The first rule that is broken: of states, of kinds and of rows, each by number.
-fn broken_rule(
+// Whether no initial state has parameters.
+fn inits_sound(states: &[State]) -> bool
+    ensures { result ≡ every sound_init states.now }
+{
+    states.iter().all(init_sound)
+}
+
+// A state is initial, and each that is has no parameters.
+fn check_initials(states: &[State]) -> Result<(), Refusal>
+    ensures { result ≡ answer_of (initials states.now) }
+{
+    if has_init(states) && inits_sound(states) {
+        Ok(())
+    } else {
+        Err(Refusal::InitialStates)
+    }
+}
+
+// No rule is broken: of states, of kinds and of rows, each by number.
+fn check_rules(
     states: &[State],
     rows: &[Row],
-    kinds: &[EventKind; 64],
+    kinds: &[EventKind; KINDS],
     constants: usize,
-) -> Option<Refusal>
+) -> Result<(), Refusal>
     requires { (length states.now ≤ 32) × (length rows.now ≤ 256) }
-    ensures { result ≡ broken_rule states.now rows.now kinds.now constants }
+    ensures { result ≡ answer_of (broken_rule states.now rows.now kinds.now constants) }
 {
-    if let Some(refusal) = broken_state(states) {
-        return Some(refusal);
-    }
-    if let Some(refusal) = broken_kind(kinds) {
-        return Some(refusal);
-    }
-    broken_row(states, rows, constants)
+    check_states(states)?;
+    check_kinds(kinds)?;
+    check_rows(states, rows, constants)
 }
 
 // Why the tables are not loaded, if they are not.
-pub fn load_refusal(
+pub fn check(
     states: &[State],
     rows: &[Row],
-    kinds: &[EventKind; 64],
+    kinds: &[EventKind; KINDS],
     constants: usize,
-) -> Option<Refusal>
-    ensures { result ≡ load_refusal states.now rows.now kinds.now constants }
+) -> Result<(), Refusal>
+    ensures { result ≡ answer_of (load_refusal states.now rows.now kinds.now constants) }
 {
-    if let Some(refusal) = long_table(states.len(), rows.len(), constants) {
-        return Some(refusal);
-    }
-    if let Some(refusal) = broken_rule(states, rows, kinds, constants) {
-        return Some(refusal);
-    }
-    bad_initials(states)
+    check_lengths(states.len(), rows.len(), constants)?;
+    check_rules(states, rows, kinds, constants)?;
+    check_initials(states)
 }
 
 // Whether the tables are those of a keyed sheet.
-pub fn is_keyed(states: &[State], rows: &[Row], kinds: &[EventKind; 64]) -> bool
+pub fn is_keyed(states: &[State], rows: &[Row], kinds: &[EventKind; KINDS]) -> bool
     ensures { result ≡ keyed_tables states.now rows.now kinds.now }
 {
-    all_hold(&KeyedState, states) && all_hold(&KeyedRow { states, kinds }, rows)
+    states_keyed(states) && rows_keyed(states, kinds, rows)
 }

@@ -1,6 +1,6 @@
 // Why a load fails.
 ghost use Rattle.std.specs.Prelude.{◌≡◌};
-ghost use Rattle.sheets.specs.declared.fault.LoadError.TheVariants.{Memory};
+ghost use Rattle.sheets.specs.declared.fault.LoadError.TheVariants.{Refused, Memory};
 
 use refusals::Refusal;
 use std::alloc::AllocError;
@@ -11,6 +11,14 @@ pub enum LoadError {
     Refused(Refusal),
     // There is no memory for a copy of the tables.
     Memory,
+}
+
+impl From<Refusal> for LoadError {
+    ghost from_gives = { λ refusal r. r ≡ Refused refusal };
+
+    fn from(refusal: Refusal) -> LoadError {
+        LoadError::Refused(refusal)
+    }
 }
 
 impl From<AllocError> for LoadError {

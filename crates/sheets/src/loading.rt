@@ -6,31 +6,18 @@ ghost use Rattle.sheets.specs.Sound.{sound_tables};
 ghost use Rattle.sheets.specs.Tables.{sheet_of, unwatched};
 ghost use Rattle.sheets.specs.View.{Loads, view_of};
 
-use crate::check::{is_keyed, load_refusal};
+use crate::check::{check, is_keyed};
 use crate::fault::LoadError;
 use crate::sheet::Sheet;
 use crate::table::Table;
-use crate::tables::{EventKind, Row, State};
+use crate::tables::{EventKind, KINDS, Row, State};
 use std::alloc::Global;
-
-// An event kind that is not watched and has no key field.
-const UNWATCHED: EventKind = EventKind {
-    watched: false,
-    key: 0,
-};
-
-// What an empty sheet says of each event kind.
-fn nothing_watched() -> [EventKind; 64]
-    ensures { result ≡ replicate 64 unwatched }
-{
-    [UNWATCHED; 64]
-}
 
 // Tables with what the check has found of them.
 fn table_of(
     states: Vec<State>,
     rows: Vec<Row>,
-    kinds: [EventKind; 64],
+    kinds: [EventKind; KINDS],
     constants: usize,
     keyed: bool,
 ) -> Table
@@ -56,7 +43,13 @@ impl<'a, V> Sheet<'a, V> {
         ensures { view_of result ≡ sheet_of [] [] (replicate 64 unwatched) [] }
     {
         Sheet {
-            table: table_of(Vec::new(heap), Vec::new(heap), nothing_watched(), 0, true),
+            table: table_of(
+                Vec::new(heap),
+                Vec::new(heap),
+                [EventKind::default(); KINDS],
+                0,
+                true,
+            ),
             constants: &[],
         }
     }
@@ -67,15 +60,13 @@ impl<'a, V> Sheet<'a, V> {
         heap: Global,
         states: &[State],
         rows: &[Row],
-        kinds: &[EventKind; 64],
+        kinds: &[EventKind; KINDS],
         constants: &'a [V],
     ) -> Result<(), LoadError>
         ensures answer { Loads result (load_refusal states.now rows.now kinds.now (length constants.now)) }
         ensures sheet { view_of self.new ≡ (if is_ok result then sheet_of states.now rows.now kinds.now constants.now else view_of self.old) }
     {
-        if let Some(refusal) = load_refusal(states, rows, kinds, constants.len()) {
-            return Err(LoadError::Refused(refusal));
-        }
+        check(states, rows, kinds, constants.len())?;
         let keyed = is_keyed(states, rows, kinds);
         let states = Vec::from_slice(heap, states)?;
         let rows = Vec::from_slice(heap, rows)?;

@@ -1,113 +1,95 @@
 // The rules of a row's conditions and entries.
 ghost use Rattle.std.specs.Prelude.{◌≡◌, length};
 ghost use Rattle.sheets.specs.Sound.{sound_argument, sound_condition, sound_entry, sound_pattern};
-ghost use Rattle.sheets.specs.Tables.{argument_list, state_of, unnamed};
+ghost use Rattle.sheets.specs.Tables.{argument_list};
 ghost use Rattle.sheets.specs.Words.{every, present};
 
-use crate::cells::{is_bound, is_constant, up_to};
-use crate::rule::Rule;
-use crate::tables::{Argument, Arguments, Cell, Condition, Entry, Pattern, State};
+use crate::lookup::state_of;
+use crate::names::Names;
+use crate::tables::{Argument, Arguments, Condition, Entry, Pattern};
 
-// How many parameters a state has: none where the sheet does not name it.
-pub fn parameters_of(states: &[State], name: u8) -> u8
-    ensures { result ≡ (state_of states.now name).parameters }
-{
-    let i = usize::from(name);
-    if i < states.len() {
-        states[i].parameters
-    } else {
-        0
-    }
-}
-
-fn argument_count(arguments: Arguments) -> u8
-    ensures { result ≡ length (argument_list arguments) }
-{
-    match arguments {
-        Arguments::Nothing => 0,
-        Arguments::One(_) => 1,
-        Arguments::Two(_, _) => 2,
-        Arguments::Three(_, _, _) => 3,
-    }
-}
-
-// What the patterns of a row may name: the states, so many constants, the source's parameters, and what the cells bind.
-#[derive(Clone, Copy)]
-pub struct Names<'a, 'b> {
-    pub states: &'a [State],
-    pub constants: usize,
-    pub parameters: u8,
-    pub cells: &'b [Option<Cell>],
-}
-
-fn argument_sound(names: Names, any: bool, argument: Argument) -> bool
-    ensures { result ≡ sound_argument names.entry.constants names.entry.parameters (present names.entry.cells.now) any argument }
-{
-    match argument {
-        Argument::Constant(number) => is_constant(names.constants, number),
-        Argument::Own(number) => up_to(names.parameters, number),
-        Argument::Slot(slot) => is_bound(slot, names.cells),
-        Argument::Any => any,
-    }
-}
-
-fn arguments_sound(names: Names, any: bool, arguments: Arguments) -> bool
-    ensures { result ≡ every (sound_argument names.entry.constants names.entry.parameters (present names.entry.cells.now) any) (argument_list arguments) }
-{
-    match arguments {
-        Arguments::Nothing => true,
-        Arguments::One(a) => argument_sound(names, any, a),
-        Arguments::Two(a, b) => argument_sound(names, any, a) && argument_sound(names, any, b),
-        Arguments::Three(a, b, c) => {
-            argument_sound(names, any, a)
-                && argument_sound(names, any, b)
-                && argument_sound(names, any, c)
+impl Arguments {
+    // How many arguments there are.
+    fn count(self) -> u8
+        ensures { result ≡ length (argument_list self) }
+    {
+        match self {
+            Arguments::Nothing => 0,
+            Arguments::One(_) => 1,
+            Arguments::Two(_, _) => 2,
+            Arguments::Three(_, _, _) => 3,
         }
     }
 }
 
-// Whether a pattern is sound; `any` says whether any value may stand for an argument.
-fn pattern_sound(names: Names, any: bool, pattern: Pattern) -> bool
-    ensures { result ≡ sound_pattern names.entry.constants names.entry.parameters names.entry.states.now (present names.entry.cells.now) any pattern }
-{
-    usize::from(pattern.state) < names.states.len()
-        && argument_count(pattern.arguments) == parameters_of(names.states, pattern.state)
-        && arguments_sound(names, any, pattern.arguments)
-}
-
-// The rule of conditions.
-#[derive(Clone, Copy)]
-pub struct SoundCondition<'a, 'b> {
-    pub names: Names<'a, 'b>,
-}
-
-impl Rule for SoundCondition<'_, '_> {
-    type Of = Condition;
-
-    ghost keeps = { λ s c. sound_condition s.names.constants s.names.parameters s.names.states.now (present s.names.cells.now) c };
-
-    fn holds(&self, condition: &Condition) -> bool {
-        pattern_sound(self.names, true, condition.pattern)
+impl Names<'_> {
+    fn argument_sound(self, any: bool, argument: Argument) -> bool
+        ensures { result ≡ sound_argument self.entry.constants self.entry.parameters (present self.entry.cells.now) any argument }
+    {
+        match argument {
+            Argument::Constant(number) => self.has_constant(number),
+            Argument::Own(number) => self.has_parameter(number),
+            Argument::Slot(slot) => self.is_bound(slot),
+            Argument::Any => any,
+        }
     }
-}
 
-// The rule of entries.
-#[derive(Clone, Copy)]
-pub struct SoundEntry<'a, 'b> {
-    pub names: Names<'a, 'b>,
-}
-
-impl Rule for SoundEntry<'_, '_> {
-    type Of = Entry;
-
-    ghost keeps = { λ s e. sound_entry s.names.constants s.names.parameters s.names.states.now (present s.names.cells.now) e };
-
-    fn holds(&self, entry: &Entry) -> bool {
-        match *entry {
-            Entry::Ok | Entry::Error => true,
-            Entry::Ask(pattern) | Entry::Strike(pattern) => {
-                pattern_sound(self.names, false, pattern)
+    fn arguments_sound(self, any: bool, arguments: Arguments) -> bool
+        ensures { result ≡ every (sound_argument self.entry.constants self.entry.parameters (present self.entry.cells.now) any) (argument_list arguments) }
+    {
+        match arguments {
+            Arguments::Nothing => true,
+            Arguments::One(a) => self.argument_sound(any, a),
+            Arguments::Two(a, b) => self.argument_sound(any, a) && self.argument_sound(any, b),
+            Arguments::Three(a, b, c) => {
+                self.argument_sound(any, a)
+                    && self.argument_sound(any, b)
+                    && self.argument_sound(any, c)
             }
         }
+    }
+
+    // Whether a pattern is sound; `any` says whether any value may stand for an argument.
+    fn pattern_sound(self, any: bool, pattern: Pattern) -> bool
+        ensures { result ≡ sound_pattern self.entry.constants self.entry.parameters self.entry.states.now (present self.entry.cells.now) any pattern }
+    {
+        usize::from(pattern.state) < self.states.len()
+            && pattern.arguments.count() == state_of(self.states, pattern.state).parameters
+            && self.arguments_sound(any, pattern.arguments)
+    }
+
+    fn condition_sound(self, condition: Condition) -> bool
+        ensures { result ≡ sound_condition self.entry.constants self.entry.parameters self.entry.states.now (present self.entry.cells.now) condition }
+    {
+        self.pattern_sound(true, condition.pattern)
+    }
+
+    fn entry_sound(self, entry: Entry) -> bool
+        ensures { result ≡ sound_entry self.entry.constants self.entry.parameters self.entry.states.now (present self.entry.cells.now) entry }
+    {
+        match entry {
+            Entry::Ok | Entry::Error => true,
+            Entry::Ask(pattern) | Entry::Strike(pattern) => self.pattern_sound(false, pattern),
+        }
+    }
+
+    // Whether each condition that is there is sound.
+    pub fn conditions_sound(self, conditions: &[Option<Condition>]) -> bool
+        ensures { result ≡ every (sound_condition self.entry.constants self.entry.parameters self.entry.states.now (present self.entry.cells.now)) (present conditions.now) }
+    {
+        conditions
+            .iter()
+            .flatten()
+            .all(|condition| self.condition_sound(*condition))
+    }
+
+    // Whether each entry that is there is sound.
+    pub fn entries_sound(self, entries: &[Option<Entry>]) -> bool
+        ensures { result ≡ every (sound_entry self.entry.constants self.entry.parameters self.entry.states.now (present self.entry.cells.now)) (present entries.now) }
+    {
+        entries
+            .iter()
+            .flatten()
+            .all(|entry| self.entry_sound(*entry))
     }
 }

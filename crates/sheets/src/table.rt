@@ -3,13 +3,13 @@ ghost use Rattle.std.specs.Prelude.{◌≡◌, true};
 ghost use Rattle.sheets.specs.Keyed.{keyed_tables};
 ghost use Rattle.sheets.specs.Sound.{sound_tables};
 
-use crate::tables::{EventKind, Row, State};
+use crate::tables::{EventKind, KINDS, Row, State};
 
 #[derive(Drop)]
 pub struct Table {
     pub(crate) states: Vec<State>,
     pub(crate) rows: Vec<Row>,
-    pub(crate) kinds: [EventKind; 64],
+    pub(crate) kinds: [EventKind; KINDS],
     // how many constants the sheet has
     pub(crate) constants: usize,
     pub(crate) keyed: bool,

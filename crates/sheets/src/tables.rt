@@ -1,7 +1,25 @@
 // The tables of a sheet, as a rule writer makes them. States, rows and constants are numbered from 0; parameters, fields and slots from 1.
 
+// The most states, rows and constants of a sheet.
+pub const MOST_STATES: usize = 32;
+
+pub const MOST_ROWS: usize = 256;
+
+pub const MOST_CONSTANTS: usize = 256;
+
+// The most parameters of a state.
+pub const MOST_PARAMETERS: u8 = 3;
+
+// The largest field, and the largest slot.
+pub const LARGEST_FIELD: u8 = 8;
+
+pub const LARGEST_SLOT: u8 = 4;
+
+// How many event kinds there are.
+pub const KINDS: usize = 64;
+
 // A state: how many parameters its items have, and its marks.
-#[derive(Clone, Copy)]
+#[derive(Clone, Copy, PartialEq, Eq, Default)]
 pub struct State {
     // 0 to 3
     pub parameters: u8,
@@ -18,7 +36,7 @@ pub struct State {
 }
 
 // What a cell wants of its field.
-#[derive(Clone, Copy)]
+#[derive(Clone, Copy, PartialEq, Eq)]
 pub enum Want {
     // any value
     Any,
@@ -33,14 +51,14 @@ pub enum Want {
 }
 
 // A cell: a field from 1 to 8, and what is wanted of it.
-#[derive(Clone, Copy)]
+#[derive(Clone, Copy, PartialEq, Eq)]
 pub struct Cell {
     pub field: u8,
     pub want: Want,
 }
 
 // An argument of a pattern: a constant, an own parameter, a bound slot, or any value.
-#[derive(Clone, Copy)]
+#[derive(Clone, Copy, PartialEq, Eq)]
 pub enum Argument {
     Constant(u8),
     Own(u8),
@@ -49,7 +67,7 @@ pub enum Argument {
 }
 
 // None to three arguments, one for each parameter, so that none is left out in between.
-#[derive(Clone, Copy)]
+#[derive(Clone, Copy, PartialEq, Eq)]
 pub enum Arguments {
     Nothing,
     One(Argument),
@@ -58,21 +76,21 @@ pub enum Arguments {
 }
 
 // A state with arguments.
-#[derive(Clone, Copy)]
+#[derive(Clone, Copy, PartialEq, Eq)]
 pub struct Pattern {
     pub state: u8,
     pub arguments: Arguments,
 }
 
 // A condition: an item of the pattern is open or, negated, none is.
-#[derive(Clone, Copy)]
+#[derive(Clone, Copy, PartialEq, Eq)]
 pub struct Condition {
     pub negated: bool,
     pub pattern: Pattern,
 }
 
 // What a fired row does: nothing, a finding, an item put in, or an item taken out.
-#[derive(Clone, Copy)]
+#[derive(Clone, Copy, PartialEq, Eq)]
 pub enum Entry {
     Ok,
     Error,
@@ -81,7 +99,7 @@ pub enum Entry {
 }
 
 // A row: what an item of its source state does at an event of its kind.
-#[derive(Clone, Copy)]
+#[derive(Clone, Copy, PartialEq, Eq)]
 pub struct Row {
     pub source: u8,
     pub kind: u8,
@@ -91,7 +109,7 @@ pub struct Row {
 }
 
 // What a sheet says of an event kind: whether it is watched, and its key field from 1 to 8, or 0 for none.
-#[derive(Clone, Copy)]
+#[derive(Clone, Copy, PartialEq, Eq, Default)]
 pub struct EventKind {
     pub watched: bool,
     pub key: u8,

@@ -2,7 +2,7 @@
 use items::Added;
 use std::fmt;
 
-#[derive(Drop)]
+#[derive(Default, Drop)]
 pub struct Answers {
     put: u32,
     already: u32,
@@ -12,16 +12,6 @@ pub struct Answers {
 }
 
 impl Answers {
-    pub fn none() -> Answers {
-        Answers {
-            put: 0,
-            already: 0,
-            full: 0,
-            removed: 0,
-            found: 0,
-        }
-    }
-
     pub fn count_added(&mut self, added: Added) {
         match added {
             Added::Put => self.put = self.put.saturating_add(1),

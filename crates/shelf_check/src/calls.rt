@@ -1,42 +1,22 @@
 // The calls on two shelves, and whether they answer alike.
 use crate::answers::Answers;
 use crate::drawing::{Draw, Drawn, item};
-use items::{Added, Item, Shelf};
+use items::{Item, Shelf};
 use listing::same_items;
-use std::cmp::Ordering;
-use values::Value;
 
 // How many calls are made.
 const CALLS: usize = 800;
-
-fn same_added(a: Added, b: Added) -> bool {
-    matches!(
-        (a, b),
-        (Added::Held, Added::Held) | (Added::Put, Added::Put) | (Added::Full, Added::Full)
-    )
-}
-
-fn same_item<V: Value>(a: &Option<Item<V>>, b: &Option<Item<V>>) -> bool {
-    match (a, b) {
-        (Some(x), Some(y)) => matches!(x.compare(y), Ordering::Equal),
-        (None, None) => true,
-        _ => false,
-    }
-}
 
 fn add_to_both<V: Drawn, S: Shelf<Of = V>, T: Shelf<Of = V>>(
     one: &mut S,
     other: &mut T,
     answers: &mut Answers,
     x: Item<V>,
-) -> bool
-    requires { (S.Shelf.right one.old) × (T.Shelf.right other.old) }
-    ensures { (S.Shelf.right one.new) × (T.Shelf.right other.new) }
-{
+) -> bool {
     let a = one.add(x);
     let b = other.add(x);
     answers.count_added(a);
-    same_added(a, b)
+    a == b
 }
 
 fn remove_from_both<V: Drawn, S: Shelf<Of = V>, T: Shelf<Of = V>>(
@@ -44,10 +24,7 @@ fn remove_from_both<V: Drawn, S: Shelf<Of = V>, T: Shelf<Of = V>>(
     other: &mut T,
     answers: &mut Answers,
     x: Item<V>,
-) -> bool
-    requires { (S.Shelf.right one.old) × (T.Shelf.right other.old) }
-    ensures { (S.Shelf.right one.new) × (T.Shelf.right other.new) }
-{
+) -> bool {
     let a = one.remove(&x);
     let b = other.remove(&x);
     answers.count_removed(a);
@@ -60,10 +37,7 @@ fn remove_least_from_both<V: Drawn, S: Shelf<Of = V>, T: Shelf<Of = V>>(
     other: &mut T,
     answers: &mut Answers,
     name: u8,
-) -> bool
-    requires { (S.Shelf.right one.old) × (T.Shelf.right other.old) }
-    ensures { (S.Shelf.right one.new) × (T.Shelf.right other.new) }
-{
+) -> bool {
     match one.next(name, None, None) {
         Some(least) => remove_from_both(one, other, answers, least),
         None => true,
@@ -74,21 +48,15 @@ fn held_by_both<V: Drawn, S: Shelf<Of = V>, T: Shelf<Of = V>>(
     one: &S,
     other: &T,
     x: Item<V>,
-) -> bool
-    requires { (S.Shelf.right one.now) × (T.Shelf.right other.now) }
-{
+) -> bool {
     one.holds(&x) == other.holds(&x)
 }
 
-fn sizes_of_both<V: Drawn, S: Shelf<Of = V>, T: Shelf<Of = V>>(one: &S, other: &T) -> bool
-    requires { (S.Shelf.right one.now) × (T.Shelf.right other.now) }
-{
+fn sizes_of_both<V: Drawn, S: Shelf<Of = V>, T: Shelf<Of = V>>(one: &S, other: &T) -> bool {
     one.count() == other.count() && one.limit() == other.limit()
 }
 
-fn stand_alike<V: Drawn, S: Shelf<Of = V>, T: Shelf<Of = V>>(one: &S, other: &T) -> bool
-    requires { (S.Shelf.right one.now) × (T.Shelf.right other.now) }
-{
+fn stand_alike<V: Drawn, S: Shelf<Of = V>, T: Shelf<Of = V>>(one: &S, other: &T) -> bool {
     sizes_of_both(one, other) && same_items(one, other)
 }
 
@@ -99,13 +67,11 @@ fn next_of_both<V: Drawn, S: Shelf<Of = V>, T: Shelf<Of = V>>(
     name: u8,
     first: Option<V>,
     above: Option<Item<V>>,
-) -> bool
-    requires { (S.Shelf.right one.now) × (T.Shelf.right other.now) }
-{
+) -> bool {
     let a = one.next(name, first, above);
     let b = other.next(name, first, above);
     answers.count_found(a.is_some());
-    same_item(&a, &b)
+    a == b
 }
 
 // One call, as the numbers drawn tell, on both shelves.
@@ -114,10 +80,7 @@ fn call_both<V: Drawn, S: Shelf<Of = V>, T: Shelf<Of = V>>(
     other: &mut T,
     answers: &mut Answers,
     draw: &mut Draw,
-) -> bool
-    requires { (S.Shelf.right one.old) × (T.Shelf.right other.old) }
-    ensures { (S.Shelf.right one.new) × (T.Shelf.right other.new) }
-{
+) -> bool {
     let x = item(draw);
     match draw.next() {
         0..=5 => add_to_both(one, other, answers, x),
@@ -136,9 +99,7 @@ pub fn first_difference<V: Drawn, S: Shelf<Of = V>, T: Shelf<Of = V>>(
     one: &mut S,
     other: &mut T,
     answers: &mut Answers,
-) -> Option<usize>
-    requires { (S.Shelf.right one.old) × (T.Shelf.right other.old) }
-{
+) -> Option<usize> {
     let mut draw = Draw::new();
     for number in 0..CALLS {
         let alike = call_both(one, other, answers, &mut draw);

@@ -56,14 +56,11 @@ pub fn item<V: Drawn>(draw: &mut Draw) -> Item<V> {
 // As many cells, to make a shelf over.
 pub fn cells<V: Drawn>(heap: Global, limit: usize) -> Result<Vec<Item<V>>, AllocError> {
     let filler = V::filler();
-    let mut all = Vec::with_capacity(heap, limit)?;
-    for _ in 0..limit {
-        all.push(Item {
-            name: 0,
-            first: filler,
-            second: filler,
-            third: filler,
-        })?;
-    }
-    Ok(all)
+    let blank = Item {
+        name: 0,
+        first: filler,
+        second: filler,
+        third: filler,
+    };
+    Ok(vec![in heap; blank; limit]?)
 }

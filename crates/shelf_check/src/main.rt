@@ -35,7 +35,7 @@ fn compare<V: Drawn>(rt: &HostRuntime, title: &str, limit: usize) -> io::Result<
     let heap = rt.alloc();
     let mut sorted = SortedShelf::<V>::new(cells(heap, limit)?);
     let mut indexed = IndexedShelf::<V>::new(heap, cells(heap, limit)?)?;
-    let mut answers = Answers::none();
+    let mut answers = Answers::default();
     let difference = first_difference(&mut sorted, &mut indexed, &mut answers);
     report(rt, title, limit, &answers, difference)
 }
@@ -45,7 +45,7 @@ fn compare_any<V: Drawn>(rt: &HostRuntime, title: &str, limit: usize) -> io::Res
     let heap = rt.alloc();
     let mut sorted = AnyShelf::Sorted(SortedShelf::<V>::new(cells(heap, limit)?));
     let mut indexed = AnyShelf::Indexed(IndexedShelf::<V>::new(heap, cells(heap, limit)?)?);
-    let mut answers = Answers::none();
+    let mut answers = Answers::default();
     let difference = first_difference(&mut sorted, &mut indexed, &mut answers);
     report(rt, title, limit, &answers, difference)
 }

@@ -1,6 +1,6 @@
 // New shelves.
 ghost use Rattle.std.specs.Prelude.{◌≡◌, [], IfOk, vec_len};
-ghost use Rattle.anyshelf.specs.Meaning.{AnyRight, any_items, any_limit};
+ghost use Rattle.anyshelf.specs.Meaning.{any_items, any_limit};
 ghost use Rattle.items.specs.Items.{limit_of};
 ghost use Rattle.shelving.specs.Adding.{added_all};
 
@@ -20,7 +20,7 @@ fn empty_shelf<V: ScriptValue + Bucketed>(
     make: Make,
     cells: Vec<Item<V>>,
 ) -> Result<AnyShelf<V>, AllocError>
-    ensures { IfOk result (λ s. AnyRight V.Value.order V.Bucketed.bucket_of V.Value.blank s × (any_items V.Value.blank s ≡ []) × (any_limit s ≡ limit_of (vec_len cells))) }
+    ensures { IfOk result (λ s. (any_items s ≡ []) × (any_limit s ≡ limit_of (vec_len cells))) }
 {
     match make {
         Make::Sorted => Ok(AnyShelf::Sorted(SortedShelf::new(cells))),
@@ -30,9 +30,7 @@ fn empty_shelf<V: ScriptValue + Bucketed>(
 
 // Puts items on a shelf, as far as it has room.
 fn add_all<S: Shelf>(shelf: &mut S, held: &[Item<S::Of>])
-    requires { S.Shelf.right shelf.old }
-    ensures right { S.Shelf.right shelf.new }
-    ensures items { S.Shelf.items shelf.new ≡ added_all S.Of.Value.order (S.Shelf.limit shelf.old) held.now (S.Shelf.items shelf.old) }
+    ensures items { S.Shelf.items shelf.new ≡ added_all S.Of.Ord.cmp (S.Shelf.limit shelf.old) held.now (S.Shelf.items shelf.old) }
     ensures limit { S.Shelf.limit shelf.new ≡ S.Shelf.limit shelf.old }
 {
     for item in held {
@@ -47,7 +45,7 @@ pub fn shelf_of<V: ScriptValue + Bucketed>(
     cells: usize,
     held: &[Item<V>],
 ) -> Result<AnyShelf<V>, AllocError>
-    ensures { IfOk result (λ s. AnyRight V.Value.order V.Bucketed.bucket_of V.Value.blank s × (any_items V.Value.blank s ≡ added_all V.Value.order (limit_of cells) held.now []) × (any_limit s ≡ limit_of cells)) }
+    ensures { IfOk result (λ s. (any_items s ≡ added_all V.Ord.cmp (limit_of cells) held.now []) × (any_limit s ≡ limit_of cells)) }
 {
     let mut shelf = empty_shelf(heap, make, item_room(heap, cells)?)?;
     add_all(&mut shelf, held);

@@ -1,42 +1,47 @@
 -- What the calls find and leave, over the list of items.
-use Rattle.std.proofs.Common.{◌≡◌, ℕ, ◌+◌, ◌-◌, ◌<◌, ◌≤◌, true, false, List, length, get_or, Some, None, Ordering, Less, Equal, sym, ap, ◌∙◌, subst, arith}
-use Rattle.std.specs.List.{insert, remove, slice_get}
-use Rattle.std.specs.Ordering.{is_eq}
+use Rattle.std.proofs.Common.{◌≡◌, ℕ, ◌<◌, ◌≤◌, true, false, List, [], ◌∷◌, length, get_or, Ordering, Less, Equal, Greater, refl, sym, ap, ◌∙◌, subst, ⊎_elim, arith}
+use Rattle.std.proofs.lemmas.Bool.{cases_lt, false≢true}
+use Rattle.std.specs.List.Sorted.{IsPartitionPoint, IsPartitionedBy}
+use Rattle.std.specs.List.{insert, remove}
+use Rattle.std.specs.Ordering.{is_lt}
 use Rattle.values.specs.Order.{TotalOrder}
 use Rattle.items.specs.Items.{ByteNames, item_order}
-use Rattle.items.specs.Ascending.{first_of, leading, met, ascends, held, pick, placed, without}
+use Rattle.items.specs.Ascending.{leading, ascends, held, placed, without}
 use Rattle.items.specs.declared.item.Item.{Item}
-use Rattle.items.proofs.Orders.{by_answer, item-total}
-use Rattle.items.proofs.Ascending.{first-at, leading-above, leading-below, not_equal, placed_at, ascends-placed, without_at, ascends-without}
+use Rattle.items.proofs.Orders.{item-total}
+use Rattle.items.proofs.Ascending.{leading-above, leading-below, leading-less, leading-within, placed_at, ascends-placed, without_at, ascends-without}
 use Rattle.items.proofs.Kept.{all_placed, all_without}
 use Rattle.sorted.specs.Place.{place_of}
 use Rattle.sorted.specs.declared.mark.Mark.{Mark}
 use Rattle.sorted.specs.declared.mark.Mark.TheVariants.{At}
 use Rattle.sorted.proofs.Places.{steady}
 
--- one turn of the binary search: the count of leading items stays between the two ends, and they come nearer
-pub record Narrowed {X : Type 0} (p : X → Ordering) (xs : List X) (low high : ℕ) (r : ℕ × ℕ) : Type 0 where
-  pub above : r.0 ≤ leading p xs
-  pub below : leading p xs ≤ r.1
-  pub within : r.1 ≤ length xs
-  pub nearer : r.1 - r.0 < high - low
+is_lt-less : (o : Ordering) → is_lt o ≡ true → o ≡ Less
+is_lt-less Less e = refl
+is_lt-less Equal e = absurd (false≢true e)
+is_lt-less Greater e = absurd (false≢true e)
+
+not-less : (o : Ordering) → is_lt o ≡ false → o ≡ Less → ⊥
+not-less o e f = false≢true (sym e ∙ ap is_lt f)
+
+-- where a partition point stands, if there is an element to look at
+point : {X : Type 0} (p : X → Ordering) (xs : List X) (i : ℕ) → ((k : ℕ) (d : X) → k < length xs → p (get_or xs k d) ≡ Less → k < leading p xs) → i ≤ length xs
+    → IsPartitionPoint (λ y. is_lt (p y) ≡ true) (λ y. is_lt (p y) ≡ false) xs i → i ≡ leading p xs
+point p [] i up h r = omega arith
+point p (x ∷ xs) i up h r =
+    let l = leading-within p (x ∷ xs) in
+    ⊎_elim
+    (λ (e : i < leading p (x ∷ xs)).
+    let b = leading-below p (x ∷ xs) i x (omega arith) (not-less _ (r.1 i x (omega arith) (omega arith))) in omega arith)
+    (λ (e : leading p (x ∷ xs) ≤ i). ⊎_elim
+    (λ (f : leading p (x ∷ xs) < i).
+    let n = leading p (x ∷ xs) in
+    let b = up n x (omega arith) (is_lt-less _ (r.0 n x (omega arith) (omega arith))) in omega arith)
+    (λ (f : i ≤ leading p (x ∷ xs)). omega arith)
+    (cases_lt (leading p (x ∷ xs)) i))
+    (cases_lt i (leading p (x ∷ xs)))
 
 module _ {V : Type 0} {order : V → V → Ordering} (t : TotalOrder order) (xs : List (Item V)) (a : ascends (item_order order) xs ≡ true) where
-  module _ (m : Mark V) (i : ℕ) (e : i ≡ leading (place_of order m) xs) where
-    pub found : (y : Item V) → Some y ≡ slice_get xs i → place_of order m y ≡ Equal → Some y ≡ first_of (λ y. is_eq (place_of order m y)) xs
-    found y n p =
-        let q : slice_get xs (leading (place_of order m) xs) ≡ Some y = ap (slice_get xs) (sym e) ∙ sym n in
-        sym (first-at (item-total t) (steady t m) xs a ∙ ap (met (place_of order m)) q ∙ simp p)
-
-    pub passed : (y : Item V) → Some y ≡ slice_get xs i → (place_of order m y ≡ Equal → ⊥) → None ≡ first_of (λ y. is_eq (place_of order m y)) xs
-    passed y n p =
-        let q : slice_get xs (leading (place_of order m) xs) ≡ Some y = ap (slice_get xs) (sym e) ∙ sym n in
-        let z = not_equal (place_of order m y) p in
-        sym (first-at (item-total t) (steady t m) xs a ∙ ap (met (place_of order m)) q ∙ simp z)
-
-    pub ended : None ≡ slice_get xs i → None ≡ first_of (λ y. is_eq (place_of order m y)) xs
-    ended n = sym (first-at (item-total t) (steady t m) xs a ∙ ap (met (place_of order m)) (ap (slice_get xs) (sym e) ∙ sym n))
-
   module _ (x : Item V) (i : ℕ) (e : i ≡ leading (place_of order (At x)) xs) (ys : List (Item V)) where
     pub put_in : x.name < 256 → ByteNames xs → held (item_order order) x xs ≡ false → ys ≡ insert xs i x → (ascends (item_order order) ys ≡ true) × ByteNames ys × (ys ≡ placed (item_order order) x xs)
     put_in w b n q =
@@ -48,22 +53,12 @@ module _ {V : Type 0} {order : V → V → Ordering} (t : TotalOrder order) (xs 
         let p : ys ≡ without (item_order order) x xs = q ∙ ap (remove xs) e ∙ sym (without_at (item-total t) x xs a n) in
         (ap (ascends (item_order order)) p ∙ ascends-without (item-total t) x xs a, subst ByteNames (sym p) (all_without (item_order order) (λ (y : Item V). y.name < 256) x xs b), p)
 
-  module _ (m : Mark V) (low middle high : ℕ) (d : Item V) (o : Ordering) (e : o ≡ place_of order m (get_or xs middle d)) where
-    pub narrows : low ≤ leading (place_of order m) xs → leading (place_of order m) xs ≤ high → high ≤ length xs → low ≤ middle → middle < high
-        → (r : ℕ × ℕ) → r ≡ pick o (middle + 1, high) (low, middle) (low, middle) → Narrowed (place_of order m) xs low high r
-    narrows a₀ a₁ a₂ a₃ a₄ r h =
-        by_answer o
-        (λ f. let q : r ≡ (middle + 1, high) = h ∙ simp f in
-        let g = leading-above (item-total t) (steady t m) xs middle d a (omega arith) (sym e ∙ f) in
-        let u = ap (λ z. z.0) q in
-        let v = ap (λ z. z.1) q in
-        record { above = omega arith; below = omega arith; within = omega arith; nearer = omega arith })
-        (λ f. lower (λ n. let z : ◌≡◌ {A = ℕ} 0 1 = cc in omega arith) (h ∙ simp f))
-        (λ f. lower (λ n. let z : ◌≡◌ {A = ℕ} 0 1 = cc in omega arith) (h ∙ simp f))
-      where
-        lower : (place_of order m (get_or xs middle d) ≡ Less → ⊥) → r ≡ (low, middle) → Narrowed (place_of order m) xs low high r
-        lower n q =
-            let g = leading-below (place_of order m) xs middle d (omega arith) n in
-            let u = ap (λ z. z.0) q in
-            let v = ap (λ z. z.1) q in
-            record { above = omega arith; below = omega arith; within = omega arith; nearer = omega arith }
+  module _ (m : Mark V) where
+    -- those that stand before the mark come first
+    pub parted : IsPartitionedBy (λ y. is_lt (place_of order m y)) xs
+    parted i j d h k e =
+        let n = leading-above (item-total t) (steady t m) xs j d a k (is_lt-less _ e) in
+        ap is_lt (leading-less (place_of order m) xs i d (omega arith))
+
+    pub sought : (i : ℕ) → i ≤ length xs → IsPartitionPoint (λ y. is_lt (place_of order m y) ≡ true) (λ y. is_lt (place_of order m y) ≡ false) xs i → i ≡ leading (place_of order m) xs
+    sought i h r = point (place_of order m) xs i (λ k d. leading-above (item-total t) (steady t m) xs k d a) h r

@@ -1,6 +1,7 @@
 // What is looked for among the items, and where an item stands against it.
 ghost use Rattle.std.specs.Prelude.{◌≡◌};
-ghost use Rattle.sorted.specs.Place.{place_of};
+ghost use Rattle.items.specs.Ascending.{met};
+ghost use Rattle.sorted.specs.Place.{above_place, place_of};
 
 use items::Item;
 use std::cmp::Ordering;
@@ -13,35 +14,35 @@ pub enum Mark<V> {
     Among(u8, Option<V>, Option<Item<V>>),
 }
 
+// An item that is not above the one given stands before.
+fn above_place<V: Value>(above: Option<Item<V>>, item: &Item<V>) -> Ordering
+    ensures { result ≡ above_place V.Ord.cmp above item.now }
+{
+    match above {
+        Some(x) if x >= *item => Ordering::Less,
+        _ => Ordering::Equal,
+    }
+}
+
 impl<V: Value> Mark<V> {
     // Where an item stands: before what is looked for, at it, or past it.
     pub fn place(&self, item: &Item<V>) -> Ordering
-        ensures { result ≡ place_of V.Value.order self.now item.now }
+        ensures { result ≡ place_of V.Ord.cmp self.now item.now }
     {
         match *self {
-            Mark::At(x) => item.compare(&x),
-            Mark::Among(name, first, above) => {
-                if item.name < name {
-                    return Ordering::Less;
-                }
-                if item.name > name {
-                    return Ordering::Greater;
-                }
-                let by_first = match first {
-                    Some(f) => item.first.compare(&f),
-                    None => Ordering::Equal,
-                };
-                match by_first {
-                    Ordering::Equal => match above {
-                        Some(x) => match x.compare(item) {
-                            Ordering::Less => Ordering::Equal,
-                            _ => Ordering::Less,
-                        },
-                        None => Ordering::Equal,
-                    },
-                    o => o,
-                }
-            }
+            Mark::At(x) => item.cmp(&x),
+            Mark::Among(name, first, above) => item
+                .name
+                .cmp(&name)
+                .then(first.map_or(Ordering::Equal, |f| item.first.cmp(&f)))
+                .then(above_place(above, item)),
         }
+    }
+
+    // The item, if there is one and it meets the mark.
+    pub fn met(&self, item: Option<Item<V>>) -> Option<Item<V>>
+        ensures { result ≡ met (place_of V.Ord.cmp self.now) item }
+    {
+        item.filter(|y| self.place(y).is_eq())
     }
 }

@@ -1,5 +1,5 @@
 -- What is counted move by move is what an event adds.
-use Rattle.std.proofs.Common.{◌≡◌, ℕ, ◌+◌, ◌-◌, ◌<◌, Bool, true, false, cond, not, ◌&&◌, ◌||◌, List, [], ◌∷◌, ◌++◌, length, get_or, take, drop, Ordering, sym, refl, ap, ◌∙◌, ⊎_elim, zero-add, arith}
+use Rattle.std.proofs.Common.{◌≡◌, ℕ, ◌+◌, ◌<◌, Bool, true, false, cond, not, ◌&&◌, ◌||◌, List, [], ◌∷◌, ◌++◌, length, get_or, take, drop, Ordering, sym, refl, ap, ◌∙◌, ⊎_elim, zero-add, arith}
 use Rattle.std.proofs.lemmas.List.{drop_more, take_more}
 use Rattle.std.proofs.lemmas.Bool.{and_left, and_parts, and_right, cases_Bool, false≢true}
 use Rattle.std.specs.Ordering.{is_eq, ordering_reverse}
@@ -45,12 +45,6 @@ module _ {X : Type 0} where
     count-more =
         ap (count_from test (take i ms)) (drop_more ms i m h ∙ ap (λ y. y ∷ drop (i + 1) ms) (sym is))
         ∙ ap (λ l. cond (test (take i ms) m) 1 0 + count_from test l (drop (i + 1) ms)) (sym (take_more ms i m h ∙ ap (λ y. take i ms ++ y ∷ []) (sym is)))
-
-    pub count_next : (b : Bool) → b ≡ test (take (i - 0) ms) m → (total after all : ℕ) → after ≡ total + cond b 1 0 → total + count_from test (take i ms) (drop i ms) ≡ all → after + count_from test (take (i + 1) ms) (drop (i + 1) ms) ≡ all
-    count_next b e total after all f g =
-        let z : i - 0 ≡ i = omega arith in
-        let k : ◌≡◌ {A = ℕ} (cond b 1 0) (cond (test (take i ms) m) 1 0) = ap (λ c. cond c 1 0) (e ∙ ap (λ j. test (take j ms) m) z) in
-        omega (arith, count-more, k, f, g)
 
 module _ {X : Type 0} {order : X → X → Ordering} (t : TotalOrder order) where
   -- an element is counted once, if it is held

@@ -1,4 +1,5 @@
 pub mod Counting
+mod OwnFields
 mod Scoped
 pub mod SetSizes
 pub mod SetSteps

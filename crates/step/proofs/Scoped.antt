@@ -21,9 +21,6 @@ module _ {V X : Type 0} (order : V → V → Ordering) (f : Item V → List X) (
       left true false a b = refl
       left false q a b = absurd (both_ways false refl a)
 
-  pub every-named : flat_map f (kept (wanted order n None None) xs) ≡ flat_map f (kept (named n) xs)
-  every-named = listed-named None (λ x a b. absurd (both_ways true b refl))
-
   pub only-named : (v : V) → ((x : Item V) → x.name ≡ n → skipped order (Only v) x ≡ true → f x ≡ []) → flat_map f (kept (wanted order n (Some v) None) xs) ≡ flat_map f (kept (named n) xs)
   only-named v none = listed-named (Some v) (λ x a b. none x (eqb-true x.name n a) (not_from_false (agrees order (Some v) x.first) b))
 

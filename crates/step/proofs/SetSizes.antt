@@ -1,6 +1,6 @@
 -- The size of the new set, move by move.
-use Rattle.std.proofs.Common.{◌≡◌, ℕ, ◌+◌, ◌-◌, ◌<◌, ◌≤◌, Bool, true, false, cond, not, ◌&&◌, ◌||◌, List, [], ◌∷◌, ◌++◌, length, get_or, take, drop, Ordering, sym, refl, ap, ◌∙◌, ⊎_elim, arith}
-use Rattle.std.proofs.lemmas.List.{drop_more, take_more}
+use Rattle.std.proofs.Common.{◌≡◌, ℕ, ◌+◌, ◌-◌, ◌<◌, ◌≤◌, Bool, true, false, cond, not, ◌&&◌, ◌||◌, List, [], ◌∷◌, ◌++◌, length, get_or, take, Ordering, sym, refl, ap, ◌∙◌, ⊎_elim, arith}
+use Rattle.std.proofs.lemmas.List.{take_more}
 use Rattle.std.proofs.lemmas.Bool.{and_from, and_parts, cases_Bool}
 use Rattle.std.specs.Ordering.{is_eq}
 use Rattle.values.specs.Order.{TotalOrder}
@@ -49,17 +49,6 @@ module _ {X : Type 0} where
   pub some-append : (p : X → Bool) (xs ys : List X) → some p (xs ++ ys) ≡ (some p xs || some p ys)
   some-append p [] ys = refl
   some-append p (x ∷ xs) ys = ap (λ b. p x || b) (some-append p xs ys) ∙ sym (or-group (p x) (some p xs) (some p ys))
-
-  -- a loop that looks for a move: i are passed, and x is next
-  module _ (p : X → Bool) (xs : List X) (i : ℕ) (x : X) (h : i < length xs) (is : x ≡ get_or xs i x) (so_far : some p xs ≡ some p (drop i xs)) where
-    next : some p xs ≡ (p x || some p (drop (i + 1) xs))
-    next = so_far ∙ ap (some p) (drop_more xs i x h ∙ ap (λ y. y ∷ drop (i + 1) xs) (sym is))
-
-    pub some-here : true ≡ p x → true ≡ some p xs
-    some-here e = sym (next ∙ ap (λ b. b || some p (drop (i + 1) xs)) (sym e))
-
-    pub some-later : false ≡ p x → some p xs ≡ some p (drop (i + 1) xs)
-    some-later e = next ∙ ap (λ b. b || some p (drop (i + 1) xs)) (sym e)
 
 module _ {X : Type 0} {order : X → X → Ordering} (t : TotalOrder order) where
   -- what is held of what is kept

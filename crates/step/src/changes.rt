@@ -2,7 +2,7 @@
 ghost use Rattle.std.specs.Prelude.{◌≡◌, ◌≤◌, not, length};
 ghost use Rattle.items.specs.Ascending.{kept};
 ghost use Rattle.items.specs.Items.{item_order};
-ghost use Rattle.rules.specs.Kinds.{values_by};
+ghost use Rattle.rules.specs.Kinds.{value_kind};
 ghost use Rattle.rules.specs.Step.{moved, new_set, taken, with_all};
 ghost use Rattle.rules.specs.declared.moves.Cause.TheVariants.{Asked};
 ghost use Rattle.step.specs.Sets.{in_by, out_by, takes_out};
@@ -23,10 +23,8 @@ pub fn takes_out(cause: Cause) -> bool
 
 // Takes the item of one move out, if the move does so.
 fn take_one<V: Value, S: Shelf<Of = V>>(shelf: &mut S, change: &Move<V>)
-    requires { S.Shelf.right shelf.old }
-    ensures right { S.Shelf.right shelf.new }
     ensures limit { S.Shelf.limit shelf.new ≡ S.Shelf.limit shelf.old }
-    ensures items { S.Shelf.items shelf.new ≡ out_by V.Value.order change.now (S.Shelf.items shelf.old) }
+    ensures items { S.Shelf.items shelf.new ≡ out_by V.Ord.cmp change.now (S.Shelf.items shelf.old) }
 {
     if takes_out(change.cause) {
         shelf.remove(&change.item);
@@ -35,11 +33,9 @@ fn take_one<V: Value, S: Shelf<Of = V>>(shelf: &mut S, change: &Move<V>)
 
 // Puts the item of one move in, if the move asks for it.
 fn ask_one<V: Value, S: Shelf<Of = V>>(shelf: &mut S, change: &Move<V>)
-    requires right { S.Shelf.right shelf.old }
-    requires room { length (in_by V.Value.order change.now (S.Shelf.items shelf.old)) ≤ S.Shelf.limit shelf.old }
-    ensures right { S.Shelf.right shelf.new }
+    requires room { length (in_by V.Ord.cmp change.now (S.Shelf.items shelf.old)) ≤ S.Shelf.limit shelf.old }
     ensures limit { S.Shelf.limit shelf.new ≡ S.Shelf.limit shelf.old }
-    ensures items { S.Shelf.items shelf.new ≡ in_by V.Value.order change.now (S.Shelf.items shelf.old) }
+    ensures items { S.Shelf.items shelf.new ≡ in_by V.Ord.cmp change.now (S.Shelf.items shelf.old) }
 {
     if !takes_out(change.cause) {
         shelf.add(change.item);
@@ -48,10 +44,8 @@ fn ask_one<V: Value, S: Shelf<Of = V>>(shelf: &mut S, change: &Move<V>)
 
 // Takes out what leaves or is struck.
 fn take_all<V: Value, S: Shelf<Of = V>>(shelf: &mut S, moves: &[Move<V>])
-    requires { S.Shelf.right shelf.old }
-    ensures right { S.Shelf.right shelf.new }
     ensures limit { S.Shelf.limit shelf.new ≡ S.Shelf.limit shelf.old }
-    ensures items { S.Shelf.items shelf.new ≡ kept (λ x. not (taken (values_by V.Value.order V.Value.blank V.Value.reads) moves.now x)) (S.Shelf.items shelf.old) }
+    ensures items { S.Shelf.items shelf.new ≡ kept (λ x. not (taken (value_kind V.Value) moves.now x)) (S.Shelf.items shelf.old) }
 {
     for change in moves {
         take_one(shelf, change);
@@ -60,11 +54,9 @@ fn take_all<V: Value, S: Shelf<Of = V>>(shelf: &mut S, moves: &[Move<V>])
 
 // Puts in what is asked for.
 fn ask_all<V: Value, S: Shelf<Of = V>>(shelf: &mut S, moves: &[Move<V>])
-    requires right { S.Shelf.right shelf.old }
-    requires room { length (with_all (item_order V.Value.order) (S.Shelf.items shelf.old) (moved Asked moves.now)) ≤ S.Shelf.limit shelf.old }
-    ensures right { S.Shelf.right shelf.new }
+    requires room { length (with_all (item_order V.Ord.cmp) (S.Shelf.items shelf.old) (moved Asked moves.now)) ≤ S.Shelf.limit shelf.old }
     ensures limit { S.Shelf.limit shelf.new ≡ S.Shelf.limit shelf.old }
-    ensures items { S.Shelf.items shelf.new ≡ with_all (item_order V.Value.order) (S.Shelf.items shelf.old) (moved Asked moves.now) }
+    ensures items { S.Shelf.items shelf.new ≡ with_all (item_order V.Ord.cmp) (S.Shelf.items shelf.old) (moved Asked moves.now) }
 {
     for change in moves {
         ask_one(shelf, change);
@@ -73,11 +65,9 @@ fn ask_all<V: Value, S: Shelf<Of = V>>(shelf: &mut S, moves: &[Move<V>])
 
 // What is taken out goes first, and then what is asked for comes in, so that an item of both stays.
 fn take_and_ask<V: Value, S: Shelf<Of = V>>(shelf: &mut S, moves: &[Move<V>])
-    requires right { S.Shelf.right shelf.old }
-    requires room { length (with_all (item_order V.Value.order) (kept (λ x. not (taken (values_by V.Value.order V.Value.blank V.Value.reads) moves.now x)) (S.Shelf.items shelf.old)) (moved Asked moves.now)) ≤ S.Shelf.limit shelf.old }
-    ensures right { S.Shelf.right shelf.new }
+    requires room { length (with_all (item_order V.Ord.cmp) (kept (λ x. not (taken (value_kind V.Value) moves.now x)) (S.Shelf.items shelf.old)) (moved Asked moves.now)) ≤ S.Shelf.limit shelf.old }
     ensures limit { S.Shelf.limit shelf.new ≡ S.Shelf.limit shelf.old }
-    ensures items { S.Shelf.items shelf.new ≡ with_all (item_order V.Value.order) (kept (λ x. not (taken (values_by V.Value.order V.Value.blank V.Value.reads) moves.now x)) (S.Shelf.items shelf.old)) (moved Asked moves.now) }
+    ensures items { S.Shelf.items shelf.new ≡ with_all (item_order V.Ord.cmp) (kept (λ x. not (taken (value_kind V.Value) moves.now x)) (S.Shelf.items shelf.old)) (moved Asked moves.now) }
 {
     take_all(shelf, moves);
     ask_all(shelf, moves);
@@ -85,11 +75,9 @@ fn take_and_ask<V: Value, S: Shelf<Of = V>>(shelf: &mut S, moves: &[Move<V>])
 
 // Makes all changes; the new set is within the limit.
 pub fn apply<V: Value, S: Shelf<Of = V>>(shelf: &mut S, moves: &[Move<V>])
-    requires right { S.Shelf.right shelf.old }
-    requires room { length (new_set (values_by V.Value.order V.Value.blank V.Value.reads) moves.now (S.Shelf.items shelf.old)) ≤ S.Shelf.limit shelf.old }
-    ensures right { S.Shelf.right shelf.new }
+    requires room { length (new_set (value_kind V.Value) moves.now (S.Shelf.items shelf.old)) ≤ S.Shelf.limit shelf.old }
     ensures limit { S.Shelf.limit shelf.new ≡ S.Shelf.limit shelf.old }
-    ensures items { S.Shelf.items shelf.new ≡ new_set (values_by V.Value.order V.Value.blank V.Value.reads) moves.now (S.Shelf.items shelf.old) }
+    ensures items { S.Shelf.items shelf.new ≡ new_set (value_kind V.Value) moves.now (S.Shelf.items shelf.old) }
 {
     take_and_ask(shelf, moves);
 }

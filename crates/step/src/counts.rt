@@ -1,6 +1,6 @@
 // What the moves of an event add to the counts of a name.
 ghost use Rattle.std.specs.Prelude.{◌≡◌, []};
-ghost use Rattle.rules.specs.Kinds.{values_by};
+ghost use Rattle.rules.specs.Kinds.{value_kind};
 ghost use Rattle.rules.specs.Step.{Asks, FiredOut, LapsedOut, Repeats, Starts, StruckOut, count_added};
 ghost use Rattle.step.specs.Counts.{count_from, is_counted, part_of};
 
@@ -14,7 +14,7 @@ use values::Value;
 
 // Whether an item that is gone counts under that cause: the first that applies.
 fn is_part<V: Value>(cause: Cause, item: &Item<V>, moves: &[Move<V>]) -> bool
-    ensures { result ≡ part_of (values_by V.Value.order V.Value.blank V.Value.reads) cause moves.now item.now }
+    ensures { result ≡ part_of (value_kind V.Value) cause moves.now item.now }
 {
     match cause {
         Cause::Fired => is_moved(Cause::Fired, item, moves),
@@ -39,8 +39,7 @@ fn is_counted<V: Value, S: Shelf<Of = V>>(
     change: &Move<V>,
     name: u8,
 ) -> bool
-    requires { S.Shelf.right shelf.now }
-    ensures { result ≡ is_counted (values_by V.Value.order V.Value.blank V.Value.reads) moves.now (S.Shelf.items shelf.now) name part front.now change.now }
+    ensures { result ≡ is_counted (value_kind V.Value) moves.now (S.Shelf.items shelf.now) name part front.now change.now }
 {
     match part {
         Part::Ask => !takes_out(change.cause) && change.item.name == name,
@@ -66,8 +65,7 @@ fn count_part<V: Value, S: Shelf<Of = V>>(
     moves: &[Move<V>],
     name: u8,
 ) -> usize
-    requires { S.Shelf.right shelf.now }
-    ensures { result ≡ count_from (is_counted (values_by V.Value.order V.Value.blank V.Value.reads) moves.now (S.Shelf.items shelf.now) name part) [] moves.now }
+    ensures { result ≡ count_from (is_counted (value_kind V.Value) moves.now (S.Shelf.items shelf.now) name part) [] moves.now }
 {
     let mut total = 0;
     for (i, change) in moves.iter().enumerate() {
@@ -80,13 +78,12 @@ fn count_part<V: Value, S: Shelf<Of = V>>(
 
 // What the moves of an event add to the counts of a name; the shelf holds the set before the event.
 pub fn count_added<V: Value, S: Shelf<Of = V>>(shelf: &S, moves: &[Move<V>], name: u8) -> Tally
-    requires { S.Shelf.right shelf.now }
-    ensures started { result.started ≡ count_added (values_by V.Value.order V.Value.blank V.Value.reads) Starts name moves.now (S.Shelf.items shelf.now) }
-    ensures asked { result.asked ≡ count_added (values_by V.Value.order V.Value.blank V.Value.reads) Asks name moves.now (S.Shelf.items shelf.now) }
-    ensures repeats { result.repeats ≡ count_added (values_by V.Value.order V.Value.blank V.Value.reads) Repeats name moves.now (S.Shelf.items shelf.now) }
-    ensures fired { result.fired ≡ count_added (values_by V.Value.order V.Value.blank V.Value.reads) FiredOut name moves.now (S.Shelf.items shelf.now) }
-    ensures lapsed { result.lapsed ≡ count_added (values_by V.Value.order V.Value.blank V.Value.reads) LapsedOut name moves.now (S.Shelf.items shelf.now) }
-    ensures struck { result.struck ≡ count_added (values_by V.Value.order V.Value.blank V.Value.reads) StruckOut name moves.now (S.Shelf.items shelf.now) }
+    ensures started { result.started ≡ count_added (value_kind V.Value) Starts name moves.now (S.Shelf.items shelf.now) }
+    ensures asked { result.asked ≡ count_added (value_kind V.Value) Asks name moves.now (S.Shelf.items shelf.now) }
+    ensures repeats { result.repeats ≡ count_added (value_kind V.Value) Repeats name moves.now (S.Shelf.items shelf.now) }
+    ensures fired { result.fired ≡ count_added (value_kind V.Value) FiredOut name moves.now (S.Shelf.items shelf.now) }
+    ensures lapsed { result.lapsed ≡ count_added (value_kind V.Value) LapsedOut name moves.now (S.Shelf.items shelf.now) }
+    ensures struck { result.struck ≡ count_added (value_kind V.Value) StruckOut name moves.now (S.Shelf.items shelf.now) }
 {
     let asked = count_part(Part::Ask, shelf, moves, name);
     let repeats = count_part(Part::Repeat, shelf, moves, name);
@@ -94,11 +91,11 @@ pub fn count_added<V: Value, S: Shelf<Of = V>>(shelf: &S, moves: &[Move<V>], nam
     let lapsed = count_part(Part::Out(Cause::Lapsed), shelf, moves, name);
     let struck = count_part(Part::Out(Cause::Struck), shelf, moves, name);
     Tally {
-        started: 0,
         asked: asked as u128,
         repeats: repeats as u128,
         fired: fired as u128,
         lapsed: lapsed as u128,
         struck: struck as u128,
+        ..Tally::default()
     }
 }

@@ -2,7 +2,7 @@
 ghost use Rattle.std.specs.Prelude.{◌≡◌, ◌≤◌, map, length, take};
 ghost use Rattle.firing.specs.At.{event_in, sheet_in};
 ghost use Rattle.buffers.specs.Places.{capped, fill};
-ghost use Rattle.rules.specs.Kinds.{values_by};
+ghost use Rattle.rules.specs.Kinds.{value_kind};
 ghost use Rattle.rules.specs.Step.{faults_at, moves_at, numbered_as, set_after};
 ghost use Rattle.sheets.specs.Tables.{kind_of};
 
@@ -11,19 +11,14 @@ use crate::walk::all_into;
 use firing::{Findings, Moves, SheetEvent};
 use items::Shelf;
 use rules::{Finding, Move};
-use sheets::EventKind;
+use sheets::{EventKind, kind_of};
 use values::Value;
 
 // Whether the sheet watches the event kind.
 fn is_watched(kinds: &[EventKind], kind: u8) -> bool
     ensures { result ≡ (kind_of kinds.now kind).watched }
 {
-    let i = usize::from(kind);
-    if i < kinds.len() {
-        kinds[i].watched
-    } else {
-        false
-    }
+    kind_of(kinds, kind).watched
 }
 
 // The moves: the front of the buffer holds them as far as it reaches, and their number is answered, counted up to the largest that a u128 has.
@@ -32,9 +27,8 @@ pub fn event_moves<V: Value, S: Shelf<Of = V>>(
     shelf: &S,
     out: &mut [Move<V>],
 ) -> u128
-    requires { S.Shelf.right shelf.now }
-    ensures out { out.new ≡ fill out.old 0 (moves_at (values_by V.Value.order V.Value.blank V.Value.reads) (sheet_in at.now) (S.Shelf.items shelf.now) (event_in at.now)) }
-    ensures count { result ≡ capped (length (moves_at (values_by V.Value.order V.Value.blank V.Value.reads) (sheet_in at.now) (S.Shelf.items shelf.now) (event_in at.now))) }
+    ensures out { out.new ≡ fill out.old 0 (moves_at (value_kind V.Value) (sheet_in at.now) (S.Shelf.items shelf.now) (event_in at.now)) }
+    ensures count { result ≡ capped (length (moves_at (value_kind V.Value) (sheet_in at.now) (S.Shelf.items shelf.now) (event_in at.now))) }
 {
     if is_watched(at.kinds, at.event.kind) {
         all_into(&Moves, at, shelf, out)
@@ -50,9 +44,8 @@ pub fn event_findings<V: Value, S: Shelf<Of = V>>(
     shelf: &S,
     out: &mut [Finding<V>],
 ) -> u128
-    requires { S.Shelf.right shelf.now }
-    ensures out { out.new ≡ fill out.old 0 (map (numbered_as number) (faults_at (values_by V.Value.order V.Value.blank V.Value.reads) (sheet_in at.now) (S.Shelf.items shelf.now) (event_in at.now))) }
-    ensures count { result ≡ capped (length (faults_at (values_by V.Value.order V.Value.blank V.Value.reads) (sheet_in at.now) (S.Shelf.items shelf.now) (event_in at.now))) }
+    ensures out { out.new ≡ fill out.old 0 (map (numbered_as number) (faults_at (value_kind V.Value) (sheet_in at.now) (S.Shelf.items shelf.now) (event_in at.now))) }
+    ensures count { result ≡ capped (length (faults_at (value_kind V.Value) (sheet_in at.now) (S.Shelf.items shelf.now) (event_in at.now))) }
 {
     if is_watched(at.kinds, at.event.kind) {
         all_into(&Findings { event: number }, at, shelf, out)
@@ -68,13 +61,11 @@ pub fn apply_event<V: Value, S: Shelf<Of = V>>(
     buffer: &[Move<V>],
     count: usize,
 )
-    requires right { S.Shelf.right shelf.old }
     requires within { count ≤ length buffer.now }
-    requires moves { take count buffer.now ≡ moves_at (values_by V.Value.order V.Value.blank V.Value.reads) (sheet_in at.now) (S.Shelf.items shelf.old) (event_in at.now) }
-    requires room { length (set_after (values_by V.Value.order V.Value.blank V.Value.reads) (sheet_in at.now) (S.Shelf.items shelf.old) (event_in at.now)) ≤ S.Shelf.limit shelf.old }
-    ensures right { S.Shelf.right shelf.new }
+    requires moves { take count buffer.now ≡ moves_at (value_kind V.Value) (sheet_in at.now) (S.Shelf.items shelf.old) (event_in at.now) }
+    requires room { length (set_after (value_kind V.Value) (sheet_in at.now) (S.Shelf.items shelf.old) (event_in at.now)) ≤ S.Shelf.limit shelf.old }
     ensures limit { S.Shelf.limit shelf.new ≡ S.Shelf.limit shelf.old }
-    ensures items { S.Shelf.items shelf.new ≡ set_after (values_by V.Value.order V.Value.blank V.Value.reads) (sheet_in at.now) (S.Shelf.items shelf.old) (event_in at.now) }
+    ensures items { S.Shelf.items shelf.new ≡ set_after (value_kind V.Value) (sheet_in at.now) (S.Shelf.items shelf.old) (event_in at.now) }
 {
     apply(shelf, &buffer[0..count]);
 }

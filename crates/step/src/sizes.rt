@@ -2,7 +2,7 @@
 ghost use Rattle.std.specs.Prelude.{◌≡◌, ◌+◌, ◌^◌, ◌<◌, ◌≤◌, not, ◌&&◌, length};
 ghost use Rattle.items.specs.Ascending.{held, kept};
 ghost use Rattle.items.specs.Items.{item_order};
-ghost use Rattle.rules.specs.Kinds.{values_by};
+ghost use Rattle.rules.specs.Kinds.{value_kind};
 ghost use Rattle.rules.specs.Step.{moved, new_set, taken, with_all};
 ghost use Rattle.rules.specs.declared.moves.Cause.TheVariants.{Asked};
 ghost use Rattle.step.specs.Sets.{in_by, out_by, takes_out};
@@ -15,8 +15,7 @@ use values::Value;
 
 // Whether the shelf holds the item, and no move takes it out.
 pub fn is_left<V: Value, S: Shelf<Of = V>>(shelf: &S, moves: &[Move<V>], item: &Item<V>) -> bool
-    requires { S.Shelf.right shelf.now }
-    ensures { result ≡ held (item_order V.Value.order) item.now (kept (λ x. not (taken (values_by V.Value.order V.Value.blank V.Value.reads) moves.now x)) (S.Shelf.items shelf.now)) }
+    ensures { result ≡ held (item_order V.Ord.cmp) item.now (kept (λ x. not (taken (value_kind V.Value) moves.now x)) (S.Shelf.items shelf.now)) }
 {
     shelf.holds(item) && !is_taken(item, moves)
 }
@@ -28,16 +27,14 @@ fn is_there<V: Value, S: Shelf<Of = V>>(
     front: &[Move<V>],
     item: &Item<V>,
 ) -> bool
-    requires { S.Shelf.right shelf.now }
-    ensures { result ≡ held (item_order V.Value.order) item.now (with_all (item_order V.Value.order) (kept (λ x. not (taken (values_by V.Value.order V.Value.blank V.Value.reads) moves.now x)) (S.Shelf.items shelf.now)) (moved Asked front.now)) }
+    ensures { result ≡ held (item_order V.Ord.cmp) item.now (with_all (item_order V.Ord.cmp) (kept (λ x. not (taken (value_kind V.Value) moves.now x)) (S.Shelf.items shelf.now)) (moved Asked front.now)) }
 {
     is_moved(Cause::Asked, item, front) || is_left(shelf, moves, item)
 }
 
 // Whether a move takes out an item that those in front have left.
 fn leaves<V: Value, S: Shelf<Of = V>>(shelf: &S, front: &[Move<V>], change: &Move<V>) -> bool
-    requires { S.Shelf.right shelf.now }
-    ensures { result ≡ (takes_out change.now.cause && held (item_order V.Value.order) change.now.item (kept (λ x. not (taken (values_by V.Value.order V.Value.blank V.Value.reads) front.now x)) (S.Shelf.items shelf.now))) }
+    ensures { result ≡ (takes_out change.now.cause && held (item_order V.Ord.cmp) change.now.item (kept (λ x. not (taken (value_kind V.Value) front.now x)) (S.Shelf.items shelf.now))) }
 {
     takes_out(change.cause) && is_left(shelf, front, &change.item)
 }
@@ -49,8 +46,7 @@ fn joins<V: Value, S: Shelf<Of = V>>(
     front: &[Move<V>],
     change: &Move<V>,
 ) -> bool
-    requires { S.Shelf.right shelf.now }
-    ensures { result ≡ (not (takes_out change.now.cause) && not (held (item_order V.Value.order) change.now.item (with_all (item_order V.Value.order) (kept (λ x. not (taken (values_by V.Value.order V.Value.blank V.Value.reads) moves.now x)) (S.Shelf.items shelf.now)) (moved Asked front.now)))) }
+    ensures { result ≡ (not (takes_out change.now.cause) && not (held (item_order V.Ord.cmp) change.now.item (with_all (item_order V.Ord.cmp) (kept (λ x. not (taken (value_kind V.Value) moves.now x)) (S.Shelf.items shelf.now)) (moved Asked front.now)))) }
 {
     !takes_out(change.cause) && !is_there(shelf, moves, front, &change.item)
 }
@@ -62,9 +58,8 @@ fn left_after<V: Value, S: Shelf<Of = V>>(
     change: &Move<V>,
     left: usize,
 ) -> usize
-    requires right { S.Shelf.right shelf.now }
-    requires left { left ≡ length (kept (λ x. not (taken (values_by V.Value.order V.Value.blank V.Value.reads) front.now x)) (S.Shelf.items shelf.now)) }
-    ensures { result ≡ length (out_by V.Value.order change.now (kept (λ x. not (taken (values_by V.Value.order V.Value.blank V.Value.reads) front.now x)) (S.Shelf.items shelf.now))) }
+    requires left { left ≡ length (kept (λ x. not (taken (value_kind V.Value) front.now x)) (S.Shelf.items shelf.now)) }
+    ensures { result ≡ length (out_by V.Ord.cmp change.now (kept (λ x. not (taken (value_kind V.Value) front.now x)) (S.Shelf.items shelf.now))) }
 {
     if leaves(shelf, front, change) {
         left - 1
@@ -81,10 +76,9 @@ fn size_after<V: Value, S: Shelf<Of = V>>(
     change: &Move<V>,
     size: u128,
 ) -> u128
-    requires right { S.Shelf.right shelf.now }
     requires room { size < 2 ^ 127 }
-    requires size { size ≡ length (with_all (item_order V.Value.order) (kept (λ x. not (taken (values_by V.Value.order V.Value.blank V.Value.reads) moves.now x)) (S.Shelf.items shelf.now)) (moved Asked front.now)) }
-    ensures value { result ≡ length (in_by V.Value.order change.now (with_all (item_order V.Value.order) (kept (λ x. not (taken (values_by V.Value.order V.Value.blank V.Value.reads) moves.now x)) (S.Shelf.items shelf.now)) (moved Asked front.now))) }
+    requires size { size ≡ length (with_all (item_order V.Ord.cmp) (kept (λ x. not (taken (value_kind V.Value) moves.now x)) (S.Shelf.items shelf.now)) (moved Asked front.now)) }
+    ensures value { result ≡ length (in_by V.Ord.cmp change.now (with_all (item_order V.Ord.cmp) (kept (λ x. not (taken (value_kind V.Value) moves.now x)) (S.Shelf.items shelf.now)) (moved Asked front.now))) }
     ensures most { result ≤ size + 1 }
 {
     if joins(shelf, moves, front, change) {
@@ -96,8 +90,7 @@ fn size_after<V: Value, S: Shelf<Of = V>>(
 
 // How many items are left after all moves took theirs out.
 fn left_size<V: Value, S: Shelf<Of = V>>(shelf: &S, moves: &[Move<V>]) -> usize
-    requires { S.Shelf.right shelf.now }
-    ensures { result ≡ length (kept (λ x. not (taken (values_by V.Value.order V.Value.blank V.Value.reads) moves.now x)) (S.Shelf.items shelf.now)) }
+    ensures { result ≡ length (kept (λ x. not (taken (value_kind V.Value) moves.now x)) (S.Shelf.items shelf.now)) }
 {
     let mut left = shelf.count();
     for (i, change) in moves.iter().enumerate() {
@@ -108,8 +101,7 @@ fn left_size<V: Value, S: Shelf<Of = V>>(shelf: &S, moves: &[Move<V>]) -> usize
 
 // How many items the new set has.
 pub fn new_size<V: Value, S: Shelf<Of = V>>(shelf: &S, moves: &[Move<V>]) -> u128
-    requires { S.Shelf.right shelf.now }
-    ensures { result ≡ length (new_set (values_by V.Value.order V.Value.blank V.Value.reads) moves.now (S.Shelf.items shelf.now)) }
+    ensures { result ≡ length (new_set (value_kind V.Value) moves.now (S.Shelf.items shelf.now)) }
 {
     let mut size = left_size(shelf, moves) as u128;
     for (i, change) in moves.iter().enumerate() {

@@ -4,7 +4,7 @@ ghost use Rattle.firing.specs.Effects.{item_gives};
 ghost use Rattle.buffers.specs.Places.{fill, places_after};
 ghost use Rattle.items.specs.Ascending.{kept};
 ghost use Rattle.items.specs.Items.{wanted, named};
-ghost use Rattle.rules.specs.Kinds.{values_by};
+ghost use Rattle.rules.specs.Kinds.{value_kind};
 ghost use Rattle.std.specs.List.{flat_map};
 
 use crate::scope::Scope;
@@ -23,9 +23,8 @@ fn listed_into<V: Value, X: Copy, E: Effect<V, X>, S: Shelf<Of = V>>(
     out: &mut [X],
     place: u128,
 ) -> u128
-    requires { S.Shelf.right shelf.now }
-    ensures out { out.new ≡ fill out.old place (flat_map (item_gives (E.Effect.of_entry effect.now at.now) (values_by V.Value.order V.Value.blank V.Value.reads) at.now (S.Shelf.items shelf.now) (E.Effect.of_item effect.now at.now)) (kept (wanted V.Value.order name first None) (S.Shelf.items shelf.now))) }
-    ensures place { result ≡ places_after place (flat_map (item_gives (E.Effect.of_entry effect.now at.now) (values_by V.Value.order V.Value.blank V.Value.reads) at.now (S.Shelf.items shelf.now) (E.Effect.of_item effect.now at.now)) (kept (wanted V.Value.order name first None) (S.Shelf.items shelf.now))) }
+    ensures out { out.new ≡ fill out.old place (flat_map (item_gives (E.Effect.of_entry effect.now at.now) (value_kind V.Value) at.now (S.Shelf.items shelf.now) (E.Effect.of_item effect.now at.now)) (kept (wanted V.Ord.cmp name first None) (S.Shelf.items shelf.now))) }
+    ensures place { result ≡ places_after place (flat_map (item_gives (E.Effect.of_entry effect.now at.now) (value_kind V.Value) at.now (S.Shelf.items shelf.now) (E.Effect.of_item effect.now at.now)) (kept (wanted V.Ord.cmp name first None) (S.Shelf.items shelf.now))) }
 {
     let mut after = place;
     let mut above = None;
@@ -45,9 +44,8 @@ fn name_into<V: Value, X: Copy, E: Effect<V, X>, S: Shelf<Of = V>>(
     out: &mut [X],
     place: u128,
 ) -> u128
-    requires { S.Shelf.right shelf.now }
-    ensures out { out.new ≡ fill out.old place (flat_map (item_gives (E.Effect.of_entry effect.now at.now) (values_by V.Value.order V.Value.blank V.Value.reads) at.now (S.Shelf.items shelf.now) (E.Effect.of_item effect.now at.now)) (kept (named name) (S.Shelf.items shelf.now))) }
-    ensures place { result ≡ places_after place (flat_map (item_gives (E.Effect.of_entry effect.now at.now) (values_by V.Value.order V.Value.blank V.Value.reads) at.now (S.Shelf.items shelf.now) (E.Effect.of_item effect.now at.now)) (kept (named name) (S.Shelf.items shelf.now))) }
+    ensures out { out.new ≡ fill out.old place (flat_map (item_gives (E.Effect.of_entry effect.now at.now) (value_kind V.Value) at.now (S.Shelf.items shelf.now) (E.Effect.of_item effect.now at.now)) (kept (named name) (S.Shelf.items shelf.now))) }
+    ensures place { result ≡ places_after place (flat_map (item_gives (E.Effect.of_entry effect.now at.now) (value_kind V.Value) at.now (S.Shelf.items shelf.now) (E.Effect.of_item effect.now at.now)) (kept (named name) (S.Shelf.items shelf.now))) }
 {
     match scope_of(at, name) {
         Scope::Every => listed_into(effect, at, shelf, name, None, out, place),
@@ -63,9 +61,8 @@ pub fn all_into<V: Value, X: Copy, E: Effect<V, X>, S: Shelf<Of = V>>(
     shelf: &S,
     out: &mut [X],
 ) -> u128
-    requires { S.Shelf.right shelf.now }
-    ensures out { out.new ≡ fill out.old 0 (flat_map (item_gives (E.Effect.of_entry effect.now at.now) (values_by V.Value.order V.Value.blank V.Value.reads) at.now (S.Shelf.items shelf.now) (E.Effect.of_item effect.now at.now)) (S.Shelf.items shelf.now)) }
-    ensures place { result ≡ places_after 0 (flat_map (item_gives (E.Effect.of_entry effect.now at.now) (values_by V.Value.order V.Value.blank V.Value.reads) at.now (S.Shelf.items shelf.now) (E.Effect.of_item effect.now at.now)) (S.Shelf.items shelf.now)) }
+    ensures out { out.new ≡ fill out.old 0 (flat_map (item_gives (E.Effect.of_entry effect.now at.now) (value_kind V.Value) at.now (S.Shelf.items shelf.now) (E.Effect.of_item effect.now at.now)) (S.Shelf.items shelf.now)) }
+    ensures place { result ≡ places_after 0 (flat_map (item_gives (E.Effect.of_entry effect.now at.now) (value_kind V.Value) at.now (S.Shelf.items shelf.now) (E.Effect.of_item effect.now at.now)) (S.Shelf.items shelf.now)) }
 {
     let mut after = 0;
     for name in 0..at.states.len() {

@@ -1,9 +1,9 @@
 -- What the lines that build tables make of them.
 use Rattle.std.specs.Prelude.{ℕ, ◌-◌, true, cond, not, List, length, replicate, is_some, Some, None, Ok, Err, Option, Result, ◌==◌, nat_lt, slice_index_or, slice_set}
+use Rattle.std.specs.List.{position_or_len}
 use Rattle.sheets.specs.declared.tables.EventKind.{EventKind}
 use Rattle.sheets.specs.declared.tables.Row.{Row}
 use Rattle.sheets.specs.Tables.{kind_of}
-use Rattle.scripts.specs.Scripts.{first_where}
 use Rattle.scripts.specs.declared.misfit.Misfit.{Misfit}
 use Rattle.scripts.specs.declared.misfit.Misfit.TheVariants.{NoRow, NoSuchKind, RowFull}
 use Rattle.tablelines.specs.declared.tableline.RowLine.{RowLine}
@@ -12,7 +12,7 @@ use Rattle.tablelines.specs.declared.tableline.RowLine.TheVariants as part
 module _ {X : Type 0} where
   -- the number of the first free place
   abbrev pub first_free : List (Option X) → ℕ
-  first_free places = first_where (λ o. not (is_some o)) 0 places
+  first_free = position_or_len (λ o. not (is_some o))
 
   -- whether there is one
   abbrev pub fits : List (Option X) → Result (Unit {0}) Misfit

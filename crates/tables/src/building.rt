@@ -6,24 +6,23 @@ ghost use Rattle.scripts.specs.declared.misfit.Misfit.TheVariants.{NoMemory};
 ghost use Rattle.tables.specs.Building.{rows_with};
 ghost use Rattle.tables.specs.Tabling.{changed, no_tables, tables_of};
 
-use crate::kinds::{no_kinds, set_key, watch};
+use crate::kinds::{set_key, watch};
 use crate::rows::{bare_row, row_with};
 use crate::tables::Tables;
 use scripts::Misfit;
-use sheets::{LoadError, Row, Sheet};
+use sheets::tables::KINDS;
+use sheets::{EventKind, LoadError, Row, Sheet};
 use std::alloc::{AllocError, Global};
 use tablelines::{RowLine, TableLine};
 
 // One more part of the latest row.
 fn in_last(rows: &mut Vec<Row>, line: RowLine) -> Result<(), Misfit>
-    ensures { MatchResult result (λ _. rows_with rows.old.items line ≡ Ok rows.new.items) (λ e. (rows_with rows.old.items line ≡ Err e) × (rows.new ≡ rows.old)) }
+    ensures { MatchResult result (λ _. rows_with rows.old.items line ≡ Ok rows.new.items) (λ e. (rows_with rows.old.items line ≡ Err e) × (rows.new.items ≡ rows.old.items)) }
 {
-    let n = rows.len();
-    if n == 0 {
+    let Some(last) = rows.last_mut() else {
         return Err(Misfit::NoRow);
-    }
-    let row = row_with(rows[n - 1], line)?;
-    rows[n - 1] = row;
+    };
+    *last = row_with(*last, line)?;
     Ok(())
 }
 
@@ -35,7 +34,7 @@ impl<V: Copy> Tables<V> {
         Tables {
             states: Vec::new(heap),
             rows: Vec::new(heap),
-            kinds: no_kinds(),
+            kinds: [EventKind::default(); KINDS],
             constants: Vec::new(heap),
         }
     }
@@ -61,10 +60,10 @@ impl<V: Copy> Tables<V> {
         ensures { IfOk result (λ t. tables_of t ≡ tables_of self.now) }
     {
         Ok(Tables {
-            states: Vec::from_slice(heap, self.states.as_slice())?,
-            rows: Vec::from_slice(heap, self.rows.as_slice())?,
+            states: Vec::from_slice(heap, &self.states)?,
+            rows: Vec::from_slice(heap, &self.rows)?,
             kinds: self.kinds,
-            constants: Vec::from_slice(heap, self.constants.as_slice())?,
+            constants: Vec::from_slice(heap, &self.constants)?,
         })
     }
 
@@ -73,12 +72,6 @@ impl<V: Copy> Tables<V> {
         ensures answer { Loads result (load_refusal (tables_of self.now).states (tables_of self.now).rows (tables_of self.now).kinds (length (tables_of self.now).constants)) }
         ensures sheet { view_of sheet.new ≡ (if is_ok result then tables_of self.now else view_of sheet.old) }
     {
-        sheet.load(
-            heap,
-            self.states.as_slice(),
-            self.rows.as_slice(),
-            &self.kinds,
-            self.constants.as_slice(),
-        )
+        sheet.load(heap, &self.states, &self.rows, &self.kinds, &self.constants)
     }
 }

@@ -21,10 +21,9 @@ pub fn bare_row(source: u8, kind: u8) -> Row
 }
 
 // The row with one more part.
-pub fn row_with(row: Row, line: RowLine) -> Result<Row, Misfit>
+pub fn row_with(mut row: Row, line: RowLine) -> Result<Row, Misfit>
     ensures { result ≡ row_with row line }
 {
-    let mut row = row;
     match line {
         RowLine::Cell(cell) => place(&mut row.cells, cell)?,
         RowLine::Condition(condition) => place(&mut row.conditions, condition)?,

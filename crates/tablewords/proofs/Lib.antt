@@ -1,2 +1,1 @@
-pub mod LineSteps
 pub mod MarkSteps

@@ -1,7 +1,7 @@
 // States in a script: the number of parameters, then the marks.
 ghost use Rattle.std.specs.Prelude.{◌≡◌};
 ghost use Rattle.std.specs.Str.{bytes_eq};
-ghost use Rattle.sheets.specs.Words.{every};
+ghost use Rattle.std.specs.List.{list_all, list_any};
 ghost use Rattle.scripts.specs.Decimals.{byte_in, number_in};
 ghost use Rattle.scripts.specs.Lines.{texts};
 ghost use Rattle.tablewords.specs.States.{is_among, is_mark, marked, state_in, state_words};
@@ -9,45 +9,25 @@ ghost use Rattle.tablewords.specs.States.{is_among, is_mark, marked, state_in, s
 use scripts::{Misfit, byte};
 use sheets::State;
 
-// Whether two words are the same.
-fn is_same(word: &str, other: &str) -> bool
-    ensures { result ≡ bytes_eq word.now other.now }
-{
-    word == other
-}
-
 // Whether a word is one of some words.
 fn is_among(word: &str, words: &[&str]) -> bool
-    ensures { result ≡ is_among word.now (texts words.now) }
+    ensures { result ≡ list_any (λ w. bytes_eq word.now w.now) words.now }
 {
-    for other in words {
-        if is_same(word, other) {
-            return true;
-        }
-    }
-    false
+    words.iter().any(|other| *other == word)
 }
 
 // Whether a word is a mark.
 fn is_mark(word: &str) -> bool
     ensures { result ≡ is_mark word.now }
 {
-    match word {
-        "init" | "always" | "hot" | "step" | "next" => true,
-        _ => false,
-    }
+    matches!(word, "init" | "always" | "hot" | "step" | "next")
 }
 
 // Whether every word is a mark.
 fn all_marks(words: &[&str]) -> bool
-    ensures { result ≡ every is_mark (texts words.now) }
+    ensures { result ≡ list_all (λ w. is_mark w.now) words.now }
 {
-    for word in words {
-        if !is_mark(word) {
-            return false;
-        }
-    }
-    true
+    words.iter().all(|word| is_mark(word))
 }
 
 // The state of so many parameters that has these marks. A mark may stand twice.

@@ -39,22 +39,16 @@ fn watch<V>(words: &[&str]) -> Result<TableLine<V>, Misfit>
 fn key<V>(words: &[&str]) -> Result<TableLine<V>, Misfit>
     ensures { result ≡ key_line (two_bytes (texts words.now)) }
 {
-    let pair = two_bytes(words)?;
-    Ok(TableLine::Key {
-        kind: pair.0,
-        field: pair.1,
-    })
+    let (kind, field) = two_bytes(words)?;
+    Ok(TableLine::Key { kind, field })
 }
 
 // `row SOURCE KIND`
 fn row<V>(words: &[&str]) -> Result<TableLine<V>, Misfit>
     ensures { result ≡ row_line (two_bytes (texts words.now)) }
 {
-    let pair = two_bytes(words)?;
-    Ok(TableLine::Row {
-        source: pair.0,
-        kind: pair.1,
-    })
+    let (source, kind) = two_bytes(words)?;
+    Ok(TableLine::Row { source, kind })
 }
 
 // A line about the latest row
@@ -77,13 +71,6 @@ fn plain_line<V>(word: &str, rest: &[&str]) -> Result<TableLine<V>, Misfit>
     }
 }
 
-// Whether a word begins a line with a value.
-fn is_constant(word: &str) -> bool
-    ensures { result ≡ bytes_eq word.now (codes "constant") }
-{
-    word == "constant"
-}
-
 // The line that builds tables, by its first word and those behind it.
 pub fn table_line<V: ScriptValue>(
     heap: Global,
@@ -92,9 +79,8 @@ pub fn table_line<V: ScriptValue>(
 ) -> Result<TableLine<V>, Misfit>
     ensures { bytes_eq word.now (codes "constant") ≡ false → result ≡ plain_line word.now (texts rest.now) }
 {
-    if is_constant(word) {
-        constant(heap, rest)
-    } else {
-        plain_line(word, rest)
+    match word {
+        "constant" => constant(heap, rest),
+        _ => plain_line(word, rest),
     }
 }

@@ -1,1 +1,2 @@
 pub mod ByBytes
+pub mod Positions

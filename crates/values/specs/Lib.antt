@@ -9,3 +9,4 @@ pub mod Choice
 pub mod NumberBytes
 pub mod Packing
 pub mod ReferenceRows
+pub mod Texts

@@ -1,10 +1,11 @@
 -- Rows of bytes: at every width, the row of a number and the number of a row undo one another.
-use Rattle.std.specs.Prelude.{◌≡◌, ℕ, zero, suc, ◌+◌, ◌-◌, ◌*◌, ◌/◌, ◌%◌, ◌^◌, ◌<◌, ◌≤◌, List, [], ◌∷◌, ◌++◌, length, take, drop, slice_index, slice_index_or, slice_set, refl}
-use Rattle.std.proofs.Common.{ap, ◌∙◌, append_assoc, pow-suc, add-one, arith, length-append, length-set}
-use Rattle.std.proofs.Math.Nat.{pow-le-pow_right}
+use Rattle.std.specs.Prelude.{◌≡◌, ℕ, zero, suc, ◌+◌, ◌-◌, ◌*◌, ◌/◌, ◌%◌, ◌^◌, ◌<◌, ◌≤◌, List, [], ◌∷◌, ◌++◌, length, take, drop, slice_index, slice_index_or, refl}
+use Rattle.std.specs.Int.{byte_at, bytes_high_first, to_be_bytes, w64}
+use Rattle.std.proofs.Common.{sym, ap, ◌∙◌, zero-add, mul_comm, pow-suc, add-one, arith, length-append}
+use Rattle.std.proofs.Math.Nat.{div-div-eq-div-mul, pow-le-pow_right}
 use Rattle.std.proofs.lemmas.Nat.{div-add-mod', div_below, div-mul-add, mod-mul-add}
 use Rattle.std.proofs.lemmas.Int.Digits.{number_push, number_more}
-use Rattle.std.proofs.lemmas.List.{take_more, drop-set, drop_all, append-nil}
+use Rattle.std.proofs.lemmas.List.{take_more}
 use Rattle.values.specs.Form.{Bytes}
 use Rattle.values.specs.Words.{bytes_of, number_of}
 
@@ -45,20 +46,25 @@ module _ (bs : List ℕ) (small : Bytes bs) where
       let t : take (suc k) bs ≡ take k bs ++ (b ∷ []) = rw add-one at (take_more bs k 0 (omega arith)) in
       rw (next k h, div-mul-add n 256 b (small k), mod-mul-add n 256 b (small k), bytes_of-number k (omega arith), t)
 
--- one byte more of a row that is filled from its end
-puts : (out : List ℕ) (n k : ℕ) → k < length out → bytes_of (suc k) n ++ drop (suc k) out ≡ bytes_of k (n / 256) ++ drop k (slice_set out k (n % 256))
-puts out n k h = rw (append_assoc, drop-set out k (n % 256) h, add-one)
+-- std's word for the bytes of a number, the high byte first, means the same
+byte_at-next : (k n : ℕ) → byte_at (suc k) n ≡ byte_at k (n / 256)
+byte_at-next zero n = refl
+byte_at-next (suc k) n = ap (λ m. n / m % 256) (pow-suc 256 (suc k) ∙ mul_comm (256 ^ suc k) 256) ∙ ap (λ q. q % 256) (sym (div-div-eq-div-mul n 256 (256 ^ suc k)))
 
--- where `left` bytes of n are still to be written into a row that is to hold the bytes of `all`
-abbrev pub ToFill : List ℕ → ℕ → ℕ → ℕ → Type 0
-ToFill out all left n = (left ≤ length out) × (bytes_of (length out) all ≡ bytes_of left n ++ drop left out)
+high_first-push : (k n : ℕ) → bytes_high_first (suc k) n ≡ bytes_high_first k (n / 256) ++ (n % 256 ∷ [])
+high_first-push zero n = refl
+high_first-push (suc k) n = ap (λ b. b ∷ bytes_high_first (suc k) n) (byte_at-next k n) ∙ ap (λ bs. byte_at k (n / 256) ∷ bs) (high_first-push k n)
 
-pub fill_more : (out : List ℕ) (all left n : ℕ) → 0 < left → ToFill out all left n → ToFill (slice_set out (left - 1) (n % 256)) all (left - 1) (n / 256)
-fill_more out all left n h inv =
-    let k = left - 1 in
-    let e : left ≡ suc k = omega arith in
-    let more : bytes_of (length out) all ≡ bytes_of k (n / 256) ++ drop k (slice_set out k (n % 256)) = inv.1 ∙ ap (λ i. bytes_of i n ++ drop i out) e ∙ puts out n k (omega arith) in
-    rw length-set (omega arith, more)
+high_first-bytes_of : (k n : ℕ) → bytes_high_first k n ≡ bytes_of k n
+high_first-bytes_of zero n = refl
+high_first-bytes_of (suc k) n = high_first-push k n ∙ ap (λ bs. bs ++ (n % 256 ∷ [])) (high_first-bytes_of k (n / 256))
 
-pub fill_none : (out : List ℕ) (all : ℕ) → ToFill out all (length out) all
-fill_none out all = (omega arith, rw (drop_all (length out) out (omega arith), append-nil))
+-- the last k of m + k bytes
+high_first-drop : (m k n : ℕ) → drop m (bytes_high_first (m + k) n) ≡ bytes_high_first k n
+high_first-drop zero k n = ap (λ j. bytes_high_first j n) (zero-add k)
+high_first-drop (suc m) k n = let e : suc m + k ≡ suc (m + k) = omega arith in ap (λ j. drop (suc m) (bytes_high_first j n)) e ∙ high_first-drop m k n
+
+pub last_bytes : (k n : ℕ) → k ≤ 8 → drop (8 - k) (to_be_bytes w64 n) ≡ bytes_of k n
+last_bytes k n h =
+    let e : 8 ≡ 8 - k + k = omega arith in
+    ap (λ j. drop (8 - k) (bytes_high_first j n)) e ∙ high_first-drop (8 - k) k n ∙ high_first-bytes_of k n

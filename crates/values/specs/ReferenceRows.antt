@@ -1,8 +1,10 @@
 -- The bytes before the first zero byte, and the rows of sixteen bytes that references are.
-use Rattle.std.specs.Prelude.{◌≡◌, ℕ, suc, ◌+◌, ◌-◌, ◌<◌, ◌≤◌, min, true, false, List, [], ◌∷◌, ◌++◌, length, take, drop, replicate, Ok, Err, ◌==◌, nat_lt, slice_index}
+use Rattle.std.specs.Prelude.{◌≡◌, ℕ, suc, ◌+◌, ◌-◌, ◌<◌, ◌≤◌, min, true, false, List, [], ◌∷◌, ◌++◌, length, take, drop, replicate, Ok, Err, ◌==◌, nat_lt, slice_index, refl, cond}
+use Rattle.std.specs.List.{position_or_len}
+use Rattle.std.proofs.lemmas.List.Recursion.{is_position_or_len}
 use Rattle.std.proofs.Common.{sym, ap, ◌∙◌, ⊎_elim, arith, length-drop}
 use Rattle.std.proofs.Math.Nat.{sub-zero}
-use Rattle.std.proofs.lemmas.List.{at_drop_more, at_drop_all, append-nil, drop_at, drop-replicate, take_all, take_at, take_rest}
+use Rattle.std.proofs.lemmas.List.{append-nil, drop_at, drop-replicate, take_all, take_at, take_rest}
 use Rattle.std.proofs.lemmas.Bool.{cond-true, cond-false, cases_lt, false≢true, le-ltb, lt-ltb}
 use Rattle.std.proofs.lemmas.Bool.Decides.{nat_tests}
 use Rattle.values.specs.ReferenceForm.{announced, until_zero, length_fits, of_row, padded, packed, reference_is, reference_reads, row_of}
@@ -11,20 +13,9 @@ use Rattle.values.specs.Words.{bytes_of, number_of}
 use Rattle.values.specs.NumberBytes.{length-bytes_of}
 use borrow.Rule.Slice.PartMut.{put_mid, post_of}
 
--- the loop that counts: i bytes are passed
-module _ (bs : List ℕ) (i : ℕ) (inv : until_zero bs ≡ i + until_zero (drop i bs)) where
-  pub zero-stop : i < length bs → (slice_index bs i == 0) ≡ true → i ≡ until_zero bs
-  zero-stop h z =
-      let e : until_zero (drop i bs) ≡ 0 = at_drop_more until_zero bs i 0 h ∙ cond-true (slice_index bs i == 0) _ _ z in
-      omega arith
-
-  pub zero_more : i < length bs → (slice_index bs i == 0) ≡ false → until_zero bs ≡ i + 1 + until_zero (drop (i + 1) bs)
-  zero_more h z =
-      let e : until_zero (drop i bs) ≡ suc (until_zero (drop (i + 1) bs)) = at_drop_more until_zero bs i 0 h ∙ cond-false (slice_index bs i == 0) _ _ z in
-      omega arith
-
-  pub zero-end : length bs ≤ i → i ≡ until_zero bs
-  zero-end h = let e : until_zero (drop i bs) ≡ 0 = at_drop_all until_zero bs i h in omega arith
+-- std's word for the first place that passes a test means the same
+pub zero_position : (bs : List ℕ) → until_zero bs ≡ position_or_len (λ b. (b == 0)) bs
+zero_position bs = is_position_or_len until_zero (λ b. (b == 0)) refl (λ b cs. let e : suc (until_zero cs) ≡ 1 + until_zero cs = omega arith in ap (λ n. cond (b == 0) 0 n) e) bs
 
 pub zero-le : (bs : List ℕ) → until_zero bs ≤ length bs
 zero-le [] = omega arith

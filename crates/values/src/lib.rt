@@ -8,6 +8,7 @@ pub mod numbers;
 pub mod reference;
 pub mod references;
 mod rows;
+pub mod text;
 pub mod value;
 mod words;
 

@@ -49,15 +49,16 @@ fn is_smallest(code: u8, n: u64) -> bool
     code_of(n) == code
 }
 
-fn compare_numbers(x: u64, y: u64) -> Ordering
-    ensures { result ≡ number_order (number_is x) (number_is y) }
-{
-    x.cmp(&y)
+impl Number {
+    // Whether the number is less than, equal to or greater than another: the derived order is the usual one.
+    pub fn compare(&self, other: &Number) -> Ordering
+        ensures { result ≡ number_order self.now other.now }
+    {
+        self.cmp(other)
+    }
 }
 
 impl Value for Number {
-    ghost order = { number_order };
-
     ghost blank = { number_is 0 };
 
     ghost written = { number_written };
@@ -67,10 +68,6 @@ impl Value for Number {
     ghost total = { Prim.search rules };
 
     ghost form = { number-form };
-
-    fn compare(&self, other: &Number) -> Ordering {
-        compare_numbers(self.value, other.value)
-    }
 
     fn filler() -> Number {
         Number { value: 0 }

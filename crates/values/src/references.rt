@@ -39,28 +39,25 @@ impl Reference {
     {
         until_zero(&row_of(self))
     }
-}
 
-fn compare_words(x: Reference, y: Reference) -> Ordering
-    ensures { result ≡ reference_order x y }
-{
-    match x.high.cmp(&y.high) {
-        Ordering::Equal => x.low.cmp(&y.low),
-        o => o,
+    // Whether the reference is less than, equal to or greater than another: the derived order is that of the bytes, from the first on.
+    pub fn compare(&self, other: &Reference) -> Ordering
+        ensures words { result ≡ reference_order self.now other.now }
+        ensures bytes { result ≡ by_bytes (row_of self.now) (row_of other.now) }
+    {
+        compare_words(*self, *other)
     }
 }
 
-// The order of the words is that of the bytes, from the first on.
-fn compare_rows(x: Reference, y: Reference) -> Ordering
+// The derived order, which is that of the words, is that of the bytes.
+fn compare_words(x: Reference, y: Reference) -> Ordering
     ensures words { result ≡ reference_order x y }
     ensures bytes { result ≡ by_bytes (row_of x) (row_of y) }
 {
-    compare_words(x, y)
+    x.cmp(&y)
 }
 
 impl Value for Reference {
-    ghost order = { reference_order };
-
     ghost blank = { reference_is 0 0 };
 
     ghost written = { reference_written };
@@ -70,13 +67,6 @@ impl Value for Reference {
     ghost total = { Prim.search rules };
 
     ghost form = { reference-form };
-
-    fn compare(&self, other: &Reference) -> Ordering
-        ensures words { result ≡ reference_order self.now other.now }
-        ensures bytes { result ≡ by_bytes (row_of self.now) (row_of other.now) }
-    {
-        compare_rows(*self, *other)
-    }
 
     fn filler() -> Reference {
         Reference { high: 0, low: 0 }
@@ -104,8 +94,7 @@ impl Value for Reference {
         if n == 0 {
             return None;
         }
-        let same = pack(&row[0..n]);
-        if same.high != self.high || same.low != self.low {
+        if pack(&row[0..n]) != *self {
             return None;
         }
         Some(1 + n)

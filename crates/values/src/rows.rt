@@ -1,5 +1,5 @@
 // The sixteen bytes of a reference.
-ghost use Rattle.std.specs.Prelude.{◌≡◌, ◌≤◌, length, ◌==◌};
+ghost use Rattle.std.specs.Prelude.{◌≡◌, ◌≤◌, length, position, ◌==◌};
 ghost use Rattle.values.specs.ReferenceForm.{length_fits, of_row, packed, padded, row_of, until_zero};
 
 use crate::reference::Reference;
@@ -15,11 +15,11 @@ pub fn length_fits(n: usize) -> bool
     1 <= n && n <= LONGEST
 }
 
-// No byte of a reference is zero.
-fn is_zero(byte: u8) -> bool
-    ensures { result ≡ (byte == 0) }
+// The place of the first zero byte.
+fn first_zero(bytes: &[u8]) -> Option<usize>
+    ensures { result ≡ position (λ b. (b == 0)) bytes.now }
 {
-    byte == 0
+    bytes.iter().position(|b| *b == 0)
 }
 
 // How many bytes stand before the first zero byte.
@@ -27,12 +27,7 @@ pub fn until_zero(bytes: &[u8]) -> usize
     ensures value { result ≡ until_zero bytes.now }
     ensures within { result ≤ length bytes.now }
 {
-    for (i, b) in bytes.iter().enumerate() {
-        if is_zero(*b) {
-            return i;
-        }
-    }
-    bytes.len()
+    first_zero(bytes).unwrap_or(bytes.len())
 }
 
 // Bytes, extended by zero bytes to sixteen.

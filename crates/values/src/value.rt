@@ -1,15 +1,11 @@
+// Kinds of value.
 ghost use Rattle.std.specs.Prelude.{◌≡◌, ℕ, ◌<◌, ◌≤◌, true, List, length, is_some, Option};
-ghost use Rattle.std.specs.declared.cmp.Ordering.{Ordering};
 ghost use Rattle.std.specs.Option.{option_map};
 ghost use Rattle.values.specs.Order.{TotalOrder};
 ghost use Rattle.values.specs.Form.{Reading, WrittenForm, bytes_in, filled};
 
-use std::cmp::Ordering;
-
 // A kind of value: what the fields of an event and the items of a shelf hold.
-pub trait Value: Copy {
-    ghost order: { Self → Self → Ordering };
-
+pub trait Value: Copy + Ord {
     // The value that stands where there is none.
     ghost blank: { Self };
 
@@ -18,10 +14,6 @@ pub trait Value: Copy {
 
     // The value in front of some bytes, with its length, or the place that is refused.
     ghost reads: { List ℕ → Reading Self };
-
-    // Whether the value is less than, equal to or greater than another.
-    fn compare(&self, other: &Self) -> Ordering
-        ensures { result ≡ order self.now other.now };
 
     // The value that stands where there is none.
     fn filler() -> Self
@@ -41,7 +33,8 @@ pub trait Value: Copy {
         ensures count { result ≡ length (bytes_in (written self.now)) }
         ensures bytes { buffer.new ≡ filled (bytes_in (written self.now)) buffer.old };
 
-    ghost total: { TotalOrder order };
+    // Equal values are the same value.
+    ghost total: { TotalOrder Self.Ord.cmp };
 
     ghost form: { WrittenForm written reads };
 }

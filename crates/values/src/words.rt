@@ -22,14 +22,10 @@ pub fn number_of(bytes: &[u8]) -> u64
     n
 }
 
-// Fills the buffer with the last bytes of a number.
-pub fn put_number(mut n: u64, buffer: &mut [u8])
+// Fills a buffer of at most eight bytes with the last bytes of a number.
+pub fn put_number(n: u64, buffer: &mut [u8])
+    requires { length buffer.old ≤ 8 }
     ensures { buffer.new ≡ bytes_of (length buffer.old) n }
 {
-    let mut left = buffer.len();
-    while left > 0 {
-        left -= 1;
-        buffer[left] = (n % 256) as u8;
-        n /= 256;
-    }
+    buffer.copy_from_slice(&n.to_be_bytes()[8 - buffer.len()..]);
 }

@@ -4,7 +4,7 @@ ghost use Rattle.items.specs.Ascending.{placed, without};
 ghost use Rattle.items.specs.Items.{item_order, next_of, limit_of, add_answer, after_add};
 ghost use Rattle.items.specs.declared.added.Added.TheVariants.{Put};
 ghost use Rattle.indexed.specs.Links.{Numbered};
-ghost use Rattle.indexed.specs.Meaning.{indexed_items, indexed_limit, IndexedRight, chain_last, Holds};
+ghost use Rattle.indexed.specs.Meaning.{indexed_items, indexed_limit, chain_last, Holds};
 ghost use Rattle.indexed.specs.ByteNames.{byte-names};
 ghost use Rattle.std.proofs.Common.{rules, arith};
 
@@ -28,7 +28,7 @@ fn numbers(heap: Global, n: u32) -> Result<Vec<u32>, AllocError>
 impl<V: Bucketed> IndexedShelf<V> {
     // An empty shelf over the cells given: their number is the limit, or 65,536 if that is less.
     pub fn new(heap: Global, cells: Vec<Item<V>>) -> Result<Self, AllocError>
-        ensures { IfOk result (λ s. IndexedRight V.Value.order V.Bucketed.bucket_of V.Value.blank s × (indexed_items V.Value.blank s ≡ []) × (indexed_limit s ≡ limit_of (vec_len cells))) }
+        ensures { IfOk result (λ s. (indexed_items s ≡ []) × (indexed_limit s ≡ limit_of (vec_len cells))) }
     {
         let limit = limit_of(cells.len());
         Self::over(heap, cells, limit)
@@ -37,7 +37,7 @@ impl<V: Bucketed> IndexedShelf<V> {
     // An empty shelf of that limit: no link leads to a cell, and all cells are free.
     fn over(heap: Global, cells: Vec<Item<V>>, limit: usize) -> Result<Self, AllocError>
         requires { limit ≡ limit_of (vec_len cells) }
-        ensures { IfOk result (λ s. IndexedRight V.Value.order V.Bucketed.bucket_of V.Value.blank s × (indexed_items V.Value.blank s ≡ []) × (indexed_limit s ≡ limit_of (vec_len cells))) }
+        ensures { IfOk result (λ s. (indexed_items s ≡ []) × (indexed_limit s ≡ limit_of (vec_len cells))) }
     {
         let end = limit as u32;
         let threads = vec![in heap; end; limit + 256]?;
@@ -54,20 +54,17 @@ impl<V: Bucketed> IndexedShelf<V> {
 
     // How many cells hold no item.
     fn free_cells(&self) -> usize
-        requires { IndexedRight V.Value.order V.Bucketed.bucket_of V.Value.blank self.now }
-        ensures { length (indexed_items V.Value.blank self.now) + result ≡ indexed_limit self.now }
+        ensures { length (indexed_items self.now) + result ≡ indexed_limit self.now }
     {
         self.free.len()
     }
 
     // Puts an item into a free cell, after what is less in its thread and its chain.
     fn put_in(&mut self, before: usize, item: Item<V>)
-        requires right { IndexedRight V.Value.order V.Bucketed.bucket_of V.Value.blank self.old }
         requires name { item.name < 256 }
-        requires before { before ≡ chain_last V.Value.order V.Bucketed.bucket_of V.Value.blank self.old item }
-        requires answer { add_answer V.Value.order (indexed_limit self.old) item (indexed_items V.Value.blank self.old) ≡ Put }
-        ensures right { IndexedRight V.Value.order V.Bucketed.bucket_of V.Value.blank self.new }
-        ensures items { indexed_items V.Value.blank self.new ≡ placed (item_order V.Value.order) item (indexed_items V.Value.blank self.old) }
+        requires before { before ≡ chain_last self.old item }
+        requires answer { add_answer V.Ord.cmp (indexed_limit self.old) item (indexed_items self.old) ≡ Put }
+        ensures items { indexed_items self.new ≡ placed (item_order V.Ord.cmp) item (indexed_items self.old) }
         ensures limit { indexed_limit self.new ≡ indexed_limit self.old }
     {
         let thread_before = self.thread_before(before, &item);
@@ -83,12 +80,10 @@ impl<V: Bucketed> IndexedShelf<V> {
 
     // Takes an item out of its thread and its chain, and frees its cell.
     fn take_out(&mut self, before: usize, cell: u32, item: &Item<V>)
-        requires right { IndexedRight V.Value.order V.Bucketed.bucket_of V.Value.blank self.old }
         requires name { item.now.name < 256 }
-        requires before { before ≡ chain_last V.Value.order V.Bucketed.bucket_of V.Value.blank self.old item.now }
-        requires there { Holds V.Value.order V.Value.blank self.old item.now cell }
-        ensures right { IndexedRight V.Value.order V.Bucketed.bucket_of V.Value.blank self.new }
-        ensures items { indexed_items V.Value.blank self.new ≡ without (item_order V.Value.order) item.now (indexed_items V.Value.blank self.old) }
+        requires before { before ≡ chain_last self.old item.now }
+        requires there { Holds self.old item.now cell }
+        ensures items { indexed_items self.new ≡ without (item_order V.Ord.cmp) item.now (indexed_items self.old) }
         ensures limit { indexed_limit self.new ≡ indexed_limit self.old }
     {
         let thread_before = self.thread_before(before, item);
@@ -104,17 +99,15 @@ impl<V: Bucketed> IndexedShelf<V> {
 impl<V: Bucketed> Shelf for IndexedShelf<V> {
     type Of = V;
 
-    ghost items = { λ s. indexed_items V.Value.blank s };
+    ghost items = { λ s. indexed_items s };
 
     ghost limit = { λ s. indexed_limit s };
 
-    ghost right = { λ s. IndexedRight V.Value.order V.Bucketed.bucket_of V.Value.blank s };
+    ghost ascending = { λ s. s.sound.rising };
 
-    ghost ascending = { λ s r. r.rising };
+    ghost bounded = { λ s. s.sound.most };
 
-    ghost bounded = { λ s r. r.most };
-
-    ghost bytes = { λ s r. byte-names V.Value.order V.Bucketed.bucket_of V.Value.blank s r };
+    ghost bytes = { λ s. byte-names s.sound };
 
     fn limit(&self) -> usize {
         self.limit
@@ -132,10 +125,8 @@ impl<V: Bucketed> Shelf for IndexedShelf<V> {
 
     // Walks the item's chain as far as the item, and from there on its thread: as many cells as stand between the two neighbours in the chain.
     fn add(&mut self, item: Item<V>) -> Added
-        requires { IndexedRight V.Value.order V.Bucketed.bucket_of V.Value.blank self.old }
-        ensures right { IndexedRight V.Value.order V.Bucketed.bucket_of V.Value.blank self.new }
-        ensures answer { result ≡ add_answer V.Value.order (indexed_limit self.old) item (indexed_items V.Value.blank self.old) }
-        ensures items { indexed_items V.Value.blank self.new ≡ after_add V.Value.order result item (indexed_items V.Value.blank self.old) }
+        ensures answer { result ≡ add_answer V.Ord.cmp (indexed_limit self.old) item (indexed_items self.old) }
+        ensures items { indexed_items self.new ≡ after_add V.Ord.cmp result item (indexed_items self.old) }
         ensures limit { indexed_limit self.new ≡ indexed_limit self.old }
     {
         let before = self.chain_before(&item);
@@ -161,8 +152,7 @@ impl<V: Bucketed> Shelf for IndexedShelf<V> {
 
     // With a first value, walks its chain. Without, walks the chain of the item given as far as that item, and takes the next cell of the thread.
     fn next(&self, name: u8, first: Option<V>, above: Option<Item<V>>) -> Option<Item<V>>
-        requires { IndexedRight V.Value.order V.Bucketed.bucket_of V.Value.blank self.now }
-        ensures { result ≡ next_of V.Value.order name first above (indexed_items V.Value.blank self.now) }
+        ensures { result ≡ next_of V.Ord.cmp name first above (indexed_items self.now) }
     {
         match first {
             Some(value) => self.next_in_chain(name, value, above),

@@ -4,7 +4,7 @@ ghost use Rattle.items.specs.Ascending.{first_of, held};
 ghost use Rattle.items.specs.Items.{item_order, next_of, wanted};
 ghost use Rattle.indexed.specs.Links.{reached};
 ghost use Rattle.indexed.specs.Index.{item_in, Walkable};
-ghost use Rattle.indexed.specs.Meaning.{indexed_items, IndexedRight, chain_last, thread_last, Located};
+ghost use Rattle.indexed.specs.Meaning.{indexed_items, chain_last, thread_last, Located};
 
 use super::IndexedShelf;
 use crate::walk::{first_wanted, last_before};
@@ -24,8 +24,7 @@ fn chain_of<V: Bucketed>(name: u8, first: &V) -> usize
 impl<V: Bucketed> IndexedShelf<V> {
     // The last cell in the item's chain that holds less, or the chain's start.
     pub(super) fn chain_before(&self, item: &Item<V>) -> usize
-        requires { IndexedRight V.Value.order V.Bucketed.bucket_of V.Value.blank self.now }
-        ensures value { result ≡ chain_last V.Value.order V.Bucketed.bucket_of V.Value.blank self.now item.now }
+        ensures value { result ≡ chain_last self.now item.now }
         ensures name { item.now.name < 256 }
     {
         let start = self.limit + chain_of(item.name, &item.first);
@@ -34,10 +33,9 @@ impl<V: Bucketed> IndexedShelf<V> {
 
     // The cell of the item, if it is held: it stands in its chain right after what is less.
     pub(super) fn locate(&self, before: usize, item: &Item<V>) -> Option<u32>
-        requires right { IndexedRight V.Value.order V.Bucketed.bucket_of V.Value.blank self.now }
         requires name { item.now.name < 256 }
-        requires before { before ≡ chain_last V.Value.order V.Bucketed.bucket_of V.Value.blank self.now item.now }
-        ensures { Located V.Value.order V.Value.blank self.now item.now result }
+        requires before { before ≡ chain_last self.now item.now }
+        ensures { Located self.now item.now result }
     {
         let cell = self.chains[before];
         if cell as usize >= self.limit {
@@ -51,20 +49,18 @@ impl<V: Bucketed> IndexedShelf<V> {
 
     // Whether the item stands in its chain right after what is less.
     pub(super) fn stands_after(&self, before: usize, item: &Item<V>) -> bool
-        requires right { IndexedRight V.Value.order V.Bucketed.bucket_of V.Value.blank self.now }
         requires name { item.now.name < 256 }
-        requires before { before ≡ chain_last V.Value.order V.Bucketed.bucket_of V.Value.blank self.now item.now }
-        ensures { result ≡ held (item_order V.Value.order) item.now (indexed_items V.Value.blank self.now) }
+        requires before { before ≡ chain_last self.now item.now }
+        ensures { result ≡ held (item_order V.Ord.cmp) item.now (indexed_items self.now) }
     {
         self.locate(before, item).is_some()
     }
 
     // The last cell of the item's name that holds less, or the thread's start. The walk begins at the cell before the item in its chain, if there is one.
     pub(super) fn thread_before(&self, before: usize, item: &Item<V>) -> usize
-        requires right { IndexedRight V.Value.order V.Bucketed.bucket_of V.Value.blank self.now }
         requires name { item.now.name < 256 }
-        requires before { before ≡ chain_last V.Value.order V.Bucketed.bucket_of V.Value.blank self.now item.now }
-        ensures { result ≡ thread_last V.Value.order V.Value.blank self.now item.now }
+        requires before { before ≡ chain_last self.now item.now }
+        ensures { result ≡ thread_last self.now item.now }
     {
         if before < self.limit {
             last_before(&self.cells, &self.threads, self.limit, before, item)
@@ -76,9 +72,8 @@ impl<V: Bucketed> IndexedShelf<V> {
 
     // Where a walk to the next item of a name begins: at the item itself if it is held, else at the cell before it in its chain, else at the thread's start.
     pub(super) fn thread_start(&self, name: u8, above: Option<Item<V>>) -> usize
-        requires { IndexedRight V.Value.order V.Bucketed.bucket_of V.Value.blank self.now }
         ensures walk { Walkable (length self.now.cells.items) self.now.threads.items self.now.limit result }
-        ensures first { first_of (wanted V.Value.order name None above) (map (item_in V.Value.blank self.now.cells.items) (reached self.now.threads.items self.now.limit result self.now.limit)) ≡ next_of V.Value.order name None above (indexed_items V.Value.blank self.now) }
+        ensures first { first_of (wanted V.Ord.cmp name None above) (map (item_in V.Value.blank self.now.cells.items) (reached self.now.threads.items self.now.limit result self.now.limit)) ≡ next_of V.Ord.cmp name None above (indexed_items self.now) }
     {
         if let Some(x) = above {
             if x.name == name {
@@ -95,8 +90,7 @@ impl<V: Bucketed> IndexedShelf<V> {
     }
 
     pub(super) fn next_in_thread(&self, name: u8, above: Option<Item<V>>) -> Option<Item<V>>
-        requires { IndexedRight V.Value.order V.Bucketed.bucket_of V.Value.blank self.now }
-        ensures { result ≡ next_of V.Value.order name None above (indexed_items V.Value.blank self.now) }
+        ensures { result ≡ next_of V.Ord.cmp name None above (indexed_items self.now) }
     {
         let start = self.thread_start(name, above);
         first_wanted(
@@ -116,8 +110,7 @@ impl<V: Bucketed> IndexedShelf<V> {
         value: V,
         above: Option<Item<V>>,
     ) -> Option<Item<V>>
-        requires { IndexedRight V.Value.order V.Bucketed.bucket_of V.Value.blank self.now }
-        ensures { result ≡ next_of V.Value.order name (Some value) above (indexed_items V.Value.blank self.now) }
+        ensures { result ≡ next_of V.Ord.cmp name (Some value) above (indexed_items self.now) }
     {
         let start = self.limit + chain_of(name, &value);
         first_wanted(

@@ -1,7 +1,6 @@
 // The books of a session, as they are made.
 ghost use Rattle.std.specs.Prelude.{◌≡◌, [], ◌∷◌, ◌++◌, is_ok, IfOk, if◌then◌else◌, OnOk};
 ghost use Rattle.items.specs.Items.{limit_of};
-ghost use Rattle.sessionbooks.specs.Meaning.{SessionRight};
 
 use crate::kept::SessionBooks;
 use answers::{Fault, Output};
@@ -12,21 +11,11 @@ use scripts::{Misfit, ScriptValue};
 use shelving::shelf_of;
 use std::alloc::{AllocError, Global};
 use std::io::Write;
-use values::{Bucketed, Value};
-
-// The word of a make.
-fn make_word(make: Make) -> &'static str {
-    match make {
-        Make::Sorted => "sorted",
-        Make::Indexed => "indexed",
-    }
-}
+use values::Bucketed;
 
 impl<V: ScriptValue + Bucketed> SessionBooks<V> {
     // No book, and nothing held.
-    pub fn new(heap: Global) -> SessionBooks<V>
-        ensures { SessionRight V.Value.order V.Bucketed.bucket_of V.Value.blank result }
-    {
+    pub fn new(heap: Global) -> SessionBooks<V> {
         SessionBooks {
             latest: None,
             before: None,
@@ -36,8 +25,6 @@ impl<V: ScriptValue + Bucketed> SessionBooks<V> {
 
     // Puts an item by for the next book's shelf.
     pub(crate) fn hold(&mut self, item: Item<V>) -> Result<(), Misfit>
-        requires { SessionRight V.Value.order V.Bucketed.bucket_of V.Value.blank self.old }
-        ensures right { SessionRight V.Value.order V.Bucketed.bucket_of V.Value.blank self.new }
         ensures held { OnOk result (self.new.held.items ≡ self.old.held.items ++ (item ∷ [])) }
     {
         self.held.push(item)?;
@@ -46,8 +33,6 @@ impl<V: ScriptValue + Bucketed> SessionBooks<V> {
 
     // Makes a blank book in front of the latest, and answers its shelf's limit. The items held are on its shelf, as far as it has room.
     fn begin(&mut self, heap: Global, make: Make, cells: usize) -> Result<usize, AllocError>
-        requires { SessionRight V.Value.order V.Bucketed.bucket_of V.Value.blank self.old }
-        ensures right { SessionRight V.Value.order V.Bucketed.bucket_of V.Value.blank self.new }
         ensures limit { IfOk result (λ n. n ≡ limit_of cells) }
         ensures held { self.new.held.items ≡ (if is_ok result then [] else self.old.held.items) }
     {
@@ -65,13 +50,9 @@ impl<V: ScriptValue + Bucketed> SessionBooks<V> {
         out: &mut Output,
         make: Make,
         cells: usize,
-    ) -> Result<(), Fault>
-        requires { SessionRight V.Value.order V.Bucketed.bucket_of V.Value.blank self.old }
-        ensures { SessionRight V.Value.order V.Bucketed.bucket_of V.Value.blank self.new }
-    {
+    ) -> Result<(), Fault> {
         let limit = self.begin(heap, make, cells)?;
-        let word = make_word(make);
-        writeln!(out, "book {word} {limit}")?;
+        writeln!(out, "book {make} {limit}")?;
         Ok(())
     }
 }

@@ -1,20 +1,15 @@
 // What each line about books does.
-ghost use Rattle.sessionbooks.specs.Meaning.{SessionRight};
-
 use crate::kept::SessionBooks;
 use answers::{Fault, Output};
-use booklines::BookLine;
+use booklines::{BookLine, Rooms};
 use scripts::{Misfit, ScriptValue};
 use sheets::Sheet;
 use std::fs;
-use values::{Bucketed, Value};
+use values::Bucketed;
 
 // The bytes of a file.
 fn file_at(rt: &HostRuntime, path: &str) -> Result<Vec<u8>, Misfit> {
-    match fs::read(rt, path) {
-        Ok(bytes) => Ok(bytes),
-        Err(_) => Err(Misfit::NoSuchFile),
-    }
+    fs::read(rt, path).map_err(|_| Misfit::NoSuchFile)
 }
 
 impl<V: ScriptValue + Bucketed> SessionBooks<V> {
@@ -24,18 +19,14 @@ impl<V: ScriptValue + Bucketed> SessionBooks<V> {
         rt: &HostRuntime,
         out: &mut Output,
         sheet: &Sheet<V>,
-        moves: usize,
-        findings: usize,
+        rooms: Rooms,
         path: &str,
-    ) -> Result<(), Fault>
-        requires { SessionRight V.Value.order V.Bucketed.bucket_of V.Value.blank self.old }
-        ensures { SessionRight V.Value.order V.Bucketed.bucket_of V.Value.blank self.new }
-    {
+    ) -> Result<(), Fault> {
         if self.latest.is_none() {
-            return Err(Fault::Misfit(Misfit::NoBook));
+            return Err(Misfit::NoBook.into());
         }
         let bytes = file_at(rt, path)?;
-        self.batch(rt.alloc(), out, sheet, moves, findings, bytes.as_slice())
+        self.batch(rt.alloc(), out, sheet, rooms, bytes.as_slice())
     }
 
     // Does what a line asks for.
@@ -45,30 +36,19 @@ impl<V: ScriptValue + Bucketed> SessionBooks<V> {
         out: &mut Output,
         sheet: &Sheet<V>,
         line: BookLine<V>,
-    ) -> Result<(), Fault>
-        requires { SessionRight V.Value.order V.Bucketed.bucket_of V.Value.blank self.old }
-        ensures { SessionRight V.Value.order V.Bucketed.bucket_of V.Value.blank self.new }
-    {
+    ) -> Result<(), Fault> {
         let heap = rt.alloc();
         match line {
             BookLine::Hold { item } => Ok(self.hold(item)?),
             BookLine::Book { make, cells } => self.make(heap, out, make, cells),
             BookLine::Open => self.open(out, sheet),
-            BookLine::Put {
-                moves,
-                findings,
-                event,
-            } => self.put(heap, out, sheet, moves, findings, &event),
-            BookLine::Batch {
-                moves,
-                findings,
-                bytes,
-            } => self.batch(heap, out, sheet, moves, findings, bytes.as_slice()),
-            BookLine::Deliver {
-                moves,
-                findings,
-                path,
-            } => self.deliver(rt, out, sheet, moves, findings, path.as_str()),
+            BookLine::Put { rooms, event } => self.put(heap, out, sheet, rooms, &event),
+            BookLine::Batch { rooms, bytes } => {
+                self.batch(heap, out, sheet, rooms, bytes.as_slice())
+            }
+            BookLine::Deliver { rooms, path } => {
+                self.deliver(rt, out, sheet, rooms, path.as_str())
+            }
             BookLine::End { findings } => self.end(heap, out, sheet, findings),
             BookLine::List { room } => self.list(heap, out, room),
             BookLine::Tally { name } => self.tally(out, name),

@@ -1,25 +1,19 @@
 // The calls that change the latest book.
-ghost use Rattle.sessionbooks.specs.Meaning.{SessionRight};
-
 use crate::calls::{batch, end, open, put};
 use crate::kept::SessionBooks;
 use answers::{Fault, Output};
+use booklines::Rooms;
 use records::Event;
 use scripts::{Misfit, ScriptValue};
 use sheets::Sheet;
 use std::alloc::Global;
-use values::{Bucketed, Value};
+use values::Bucketed;
 
 impl<V: ScriptValue + Bucketed> SessionBooks<V> {
     // Opens the book.
-    pub(crate) fn open(&mut self, out: &mut Output, sheet: &Sheet<V>) -> Result<(), Fault>
-        requires { SessionRight V.Value.order V.Bucketed.bucket_of V.Value.blank self.old }
-        ensures { SessionRight V.Value.order V.Bucketed.bucket_of V.Value.blank self.new }
-    {
-        match &mut self.latest {
-            Some(book) => open(out, sheet, book),
-            None => Err(Fault::Misfit(Misfit::NoBook)),
-        }
+    pub(crate) fn open(&mut self, out: &mut Output, sheet: &Sheet<V>) -> Result<(), Fault> {
+        let book = self.latest.as_mut().ok_or(Misfit::NoBook)?;
+        open(out, sheet, book)
     }
 
     // Hands the book an event.
@@ -28,17 +22,11 @@ impl<V: ScriptValue + Bucketed> SessionBooks<V> {
         heap: Global,
         out: &mut Output,
         sheet: &Sheet<V>,
-        moves: usize,
-        findings: usize,
+        rooms: Rooms,
         event: &Event<V>,
-    ) -> Result<(), Fault>
-        requires { SessionRight V.Value.order V.Bucketed.bucket_of V.Value.blank self.old }
-        ensures { SessionRight V.Value.order V.Bucketed.bucket_of V.Value.blank self.new }
-    {
-        match &mut self.latest {
-            Some(book) => put(heap, out, sheet, book, moves, findings, event),
-            None => Err(Fault::Misfit(Misfit::NoBook)),
-        }
+    ) -> Result<(), Fault> {
+        let book = self.latest.as_mut().ok_or(Misfit::NoBook)?;
+        put(heap, out, sheet, book, rooms, event)
     }
 
     // Hands the book a batch.
@@ -47,17 +35,11 @@ impl<V: ScriptValue + Bucketed> SessionBooks<V> {
         heap: Global,
         out: &mut Output,
         sheet: &Sheet<V>,
-        moves: usize,
-        findings: usize,
+        rooms: Rooms,
         bytes: &[u8],
-    ) -> Result<(), Fault>
-        requires { SessionRight V.Value.order V.Bucketed.bucket_of V.Value.blank self.old }
-        ensures { SessionRight V.Value.order V.Bucketed.bucket_of V.Value.blank self.new }
-    {
-        match &mut self.latest {
-            Some(book) => batch(heap, out, sheet, book, moves, findings, bytes),
-            None => Err(Fault::Misfit(Misfit::NoBook)),
-        }
+    ) -> Result<(), Fault> {
+        let book = self.latest.as_mut().ok_or(Misfit::NoBook)?;
+        batch(heap, out, sheet, book, rooms, bytes)
     }
 
     // Closes the book.
@@ -67,13 +49,8 @@ impl<V: ScriptValue + Bucketed> SessionBooks<V> {
         out: &mut Output,
         sheet: &Sheet<V>,
         findings: usize,
-    ) -> Result<(), Fault>
-        requires { SessionRight V.Value.order V.Bucketed.bucket_of V.Value.blank self.old }
-        ensures { SessionRight V.Value.order V.Bucketed.bucket_of V.Value.blank self.new }
-    {
-        match &mut self.latest {
-            Some(book) => end(heap, out, sheet, book, findings),
-            None => Err(Fault::Misfit(Misfit::NoBook)),
-        }
+    ) -> Result<(), Fault> {
+        let book = self.latest.as_mut().ok_or(Misfit::NoBook)?;
+        end(heap, out, sheet, book, findings)
     }
 }

@@ -5,7 +5,7 @@ ghost use Rattle.std.specs.Ordering.{is_eq};
 ghost use Rattle.items.specs.Ascending.{leading, first_of, held, placed, without, pick};
 ghost use Rattle.items.specs.Items.{item_order, next_of, limit_of, add_answer, after_add};
 ghost use Rattle.items.specs.declared.added.Added.TheVariants.{Put};
-ghost use Rattle.sorted.specs.Meaning.{sorted_items, sorted_limit, SortedRight};
+ghost use Rattle.sorted.specs.Meaning.{sorted_items, sorted_limit};
 ghost use Rattle.sorted.specs.Place.{place_of};
 ghost use Rattle.sorted.specs.declared.mark.Mark.TheVariants.{At};
 
@@ -15,21 +15,9 @@ use items::{Added, Item, Shelf, limit_of};
 use std::cmp::Ordering;
 use values::Value;
 
-// What is left to look through from `low` up to `high`, once it is known where the item at `middle` stands.
-fn narrowed(low: usize, middle: usize, high: usize, place: Ordering) -> (usize, usize)
-    requires { middle < high }
-    ensures { result ≡ pick place (middle + 1, high) (low, middle) (low, middle) }
-{
-    match place {
-        Ordering::Less => (middle + 1, high),
-        _ => (low, middle),
-    }
-}
-
 impl<V: Value> SortedShelf<V> {
     // An empty shelf over the cells given: their number is the limit, or 65,536 if that is less.
     pub fn new(mut cells: Vec<Item<V>>) -> Self
-        ensures right { SortedRight V.Value.order result }
         ensures items { sorted_items result ≡ [] }
         ensures limit { sorted_limit result ≡ limit_of (vec_len cells) }
     {
@@ -42,58 +30,37 @@ impl<V: Value> SortedShelf<V> {
     fn item_at(&self, place: usize) -> Option<Item<V>>
         ensures { result ≡ slice_get (sorted_items self.now) place }
     {
-        if place < self.cells.len() {
-            Some(self.cells[place])
-        } else {
-            None
-        }
+        self.cells.get(place).copied()
     }
 
     // How many items stand before the mark: what is left is halved in each turn.
     fn seek(&self, mark: &Mark<V>) -> usize
-        requires { SortedRight V.Value.order self.now }
-        ensures { result ≡ leading (place_of V.Value.order mark.now) (sorted_items self.now) }
+        ensures { result ≡ leading (place_of V.Ord.cmp mark.now) (sorted_items self.now) }
     {
-        let mut low = 0;
-        let mut high = self.cells.len();
-        while low < high {
-            let middle = low + (high - low) / 2;
-            (low, high) = narrowed(low, middle, high, mark.place(&self.cells[middle]));
-        }
-        low
+        self.cells.partition_point(|item| mark.place(item).is_lt())
     }
 
     // The item right after those that stand before the mark, if the mark meets it.
     fn find(&self, mark: &Mark<V>, place: usize) -> Option<Item<V>>
-        requires right { SortedRight V.Value.order self.now }
-        requires place { place ≡ leading (place_of V.Value.order mark.now) (sorted_items self.now) }
-        ensures { result ≡ first_of (λ y. is_eq (place_of V.Value.order mark.now y)) (sorted_items self.now) }
+        requires place { place ≡ leading (place_of V.Ord.cmp mark.now) (sorted_items self.now) }
+        ensures { result ≡ first_of (λ y. is_eq (place_of V.Ord.cmp mark.now y)) (sorted_items self.now) }
     {
-        match self.item_at(place) {
-            Some(y) => match mark.place(&y) {
-                Ordering::Equal => Some(y),
-                _ => None,
-            },
-            None => None,
-        }
+        mark.met(self.item_at(place))
     }
 
     // Whether the item stands at its place.
     fn stands_at(&self, place: usize, item: &Item<V>) -> bool
-        requires right { SortedRight V.Value.order self.now }
-        requires place { place ≡ leading (place_of V.Value.order (At item.now)) (sorted_items self.now) }
-        ensures { result ≡ held (item_order V.Value.order) item.now (sorted_items self.now) }
+        requires place { place ≡ leading (place_of V.Ord.cmp (At item.now)) (sorted_items self.now) }
+        ensures { result ≡ held (item_order V.Ord.cmp) item.now (sorted_items self.now) }
     {
         self.find(&Mark::At(*item), place).is_some()
     }
 
     // Puts an item in at its place.
     fn put_in(&mut self, place: usize, item: Item<V>)
-        requires right { SortedRight V.Value.order self.old }
-        requires place { place ≡ leading (place_of V.Value.order (At item)) (sorted_items self.old) }
-        requires answer { add_answer V.Value.order (sorted_limit self.old) item (sorted_items self.old) ≡ Put }
-        ensures right { SortedRight V.Value.order self.new }
-        ensures items { sorted_items self.new ≡ placed (item_order V.Value.order) item (sorted_items self.old) }
+        requires place { place ≡ leading (place_of V.Ord.cmp (At item)) (sorted_items self.old) }
+        requires answer { add_answer V.Ord.cmp (sorted_limit self.old) item (sorted_items self.old) ≡ Put }
+        ensures items { sorted_items self.new ≡ placed (item_order V.Ord.cmp) item (sorted_items self.old) }
         ensures limit { sorted_limit self.new ≡ sorted_limit self.old }
     {
         match self.cells.insert(place, item) {
@@ -104,11 +71,9 @@ impl<V: Value> SortedShelf<V> {
 
     // Takes an item out from its place.
     fn take_out(&mut self, place: usize, item: &Item<V>)
-        requires right { SortedRight V.Value.order self.old }
-        requires place { place ≡ leading (place_of V.Value.order (At item.now)) (sorted_items self.old) }
-        requires there { held (item_order V.Value.order) item.now (sorted_items self.old) ≡ true }
-        ensures right { SortedRight V.Value.order self.new }
-        ensures items { sorted_items self.new ≡ without (item_order V.Value.order) item.now (sorted_items self.old) }
+        requires place { place ≡ leading (place_of V.Ord.cmp (At item.now)) (sorted_items self.old) }
+        requires there { held (item_order V.Ord.cmp) item.now (sorted_items self.old) ≡ true }
+        ensures items { sorted_items self.new ≡ without (item_order V.Ord.cmp) item.now (sorted_items self.old) }
         ensures limit { sorted_limit self.new ≡ sorted_limit self.old }
     {
         let _ = self.cells.remove(place);
@@ -122,13 +87,11 @@ impl<V: Value> Shelf for SortedShelf<V> {
 
     ghost limit = { λ s. sorted_limit s };
 
-    ghost right = { λ s. SortedRight V.Value.order s };
+    ghost ascending = { λ s. s.ascending };
 
-    ghost ascending = { λ s r. r };
+    ghost bounded = { λ s. s.bounded };
 
-    ghost bounded = { λ s r. s.bounded };
-
-    ghost bytes = { λ s r. s.names };
+    ghost bytes = { λ s. s.names };
 
     fn limit(&self) -> usize {
         self.limit
@@ -145,10 +108,8 @@ impl<V: Value> Shelf for SortedShelf<V> {
 
     // Found by halving; the items above it move by one cell.
     fn add(&mut self, item: Item<V>) -> Added
-        requires { SortedRight V.Value.order self.old }
-        ensures right { SortedRight V.Value.order self.new }
-        ensures answer { result ≡ add_answer V.Value.order (sorted_limit self.old) item (sorted_items self.old) }
-        ensures items { sorted_items self.new ≡ after_add V.Value.order result item (sorted_items self.old) }
+        ensures answer { result ≡ add_answer V.Ord.cmp (sorted_limit self.old) item (sorted_items self.old) }
+        ensures items { sorted_items self.new ≡ after_add V.Ord.cmp result item (sorted_items self.old) }
         ensures limit { sorted_limit self.new ≡ sorted_limit self.old }
     {
         let place = self.seek(&Mark::At(item));
@@ -174,8 +135,7 @@ impl<V: Value> Shelf for SortedShelf<V> {
 
     // Found by halving, whether a first value is given or not.
     fn next(&self, name: u8, first: Option<V>, above: Option<Item<V>>) -> Option<Item<V>>
-        requires { SortedRight V.Value.order self.now }
-        ensures { result ≡ next_of V.Value.order name first above (sorted_items self.now) }
+        ensures { result ≡ next_of V.Ord.cmp name first above (sorted_items self.now) }
     {
         let mark = Mark::Among(name, first, above);
         self.find(&mark, self.seek(&mark))

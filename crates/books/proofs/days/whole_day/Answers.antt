@@ -10,7 +10,7 @@ use Rattle.books.proofs.days.whole_day.Goals as goal
 
 pub returns : goal.returns
 returns g c =
-    let K = values_by g.S.Of.Value.order g.S.Of.Value.blank g.S.Of.Value.reads in
+    let K = values_by g.S.Of.Ord.cmp g.S.Of.Value.blank g.S.Of.Value.reads in
     let s = view_of c.args.sheet.now in
     let view = book_view g.S.Shelf.items g.S.Shelf.limit in
     let F = g.S.Shelf.items c.args.shelf in
@@ -25,6 +25,5 @@ returns g c =
     let p = point_of K s view F limit (ending ∷ (batching ∷ (opening ∷ []))) c.end-ended.new.self u3 in
     let l = law K g.met.S.Of.Value.total view view in
     record {
-      right = c.end-ended.ensures.right;
       law = record { used = u3; exact = l.exact s p; accounted = l.accounted s p; balanced = l.balanced s p };
     }

@@ -1,7 +1,7 @@
-use Rattle.std.proofs.lemmas.List.{at_drop_all, at_drop_more}
+use Rattle.std.proofs.lemmas.List.{at_drop_more}
 use Rattle.std.specs.List.{flat_map}
 use Rattle.firing.specs.Effects.{if_there}
-use Rattle.buffers.proofs.Fillings.{filling-start, filling-more, filled-all, counted-all}
+use Rattle.buffers.proofs.Fillings.{filling-start, filling-more}
 use Rattle.firing.proofs.FiredRows.{joined-present}
 use Rattle.firing.proofs.collect.entries_into.Goals as goal
 
@@ -12,9 +12,3 @@ pub loop-entry-preserved : goal.loop-entry-preserved
 loop-entry-preserved g c =
     let f = g.E.Effect.of_entry c.args.effect.now c.args.at.now c.args.item.now c.args.row.now c.args.number in
     filling-more _ _ _ _ c.loop-entry.invariant (at_drop_more (flat_map (if_there f)) c.args.entries.now c.loop-entry.entry-index _ c.loop-entry-test.true) c.entry_into-after.ensures.out c.entry_into-after.ensures.place
-
-pub returns : goal.returns
-returns g c =
-    let f = g.E.Effect.of_entry c.args.effect.now c.args.at.now c.args.item.now c.args.row.now c.args.number in
-    let e = at_drop_all (flat_map (if_there f)) c.args.entries.now c.loop-entry.entry-index c.loop-entry-test.false in
-    record { out = filled-all c.loop-entry.invariant e; place = counted-all c.loop-entry.invariant e }

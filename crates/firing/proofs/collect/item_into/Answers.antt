@@ -7,7 +7,7 @@ pub returns : goal.returns
 returns g c =
     let s = c.args.at.now in
     let F = g.S.Shelf.items c.args.shelf.now in
-    let K = values_by g.V.Value.order g.V.Value.blank g.V.Value.reads in
+    let K = values_by g.V.Ord.cmp g.V.Value.blank g.V.Value.reads in
     let one = g.E.Effect.of_item c.args.effect.now s in
     let many = g.E.Effect.of_entry c.args.effect.now s in
     record {

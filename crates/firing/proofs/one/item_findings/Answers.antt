@@ -6,5 +6,5 @@ use Rattle.firing.proofs.one.item_findings.Goals as goal
 
 pub returns : goal.returns
 returns g c =
-    let e = findings-given (values_by g.V.Value.order g.V.Value.blank g.V.Value.reads) c.args.at.now (g.S.Shelf.items c.args.shelf.now) c.args.item.now c.args.number in
+    let e = findings-given (values_by g.V.Ord.cmp g.V.Value.blank g.V.Value.reads) c.args.at.now (g.S.Shelf.items c.args.shelf.now) c.args.item.now c.args.number in
     record { out = c.item_into.ensures.out ∙ ap (fill c.args.out.now c.args.place) e; place = c.item_into.ensures.place ∙ ap (places_after c.args.place) e }

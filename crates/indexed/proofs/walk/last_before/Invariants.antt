@@ -6,7 +6,7 @@ use Rattle.indexed.proofs.walk.last_before.Given as goal
 -- the walk from here ends where the walk from the start does
 abbrev pub invariant-loop-last : goal.invariant-loop-last
 invariant-loop-last g l =
-    let p = probe g.V.Value.order g.V.Value.blank l.cells l.item in
+    let p = probe g.V.Ord.cmp g.V.Value.blank l.cells l.item in
     Walkable (length l.cells) l.links l.limit l.last
     × (last_of l.last (front p (reached l.links l.limit l.last l.limit)) ≡ last_of l.start (front p (reached l.links l.limit l.start l.limit)))
 

@@ -6,13 +6,13 @@ use Rattle.items.proofs.walks.count_of.Goals as goal
 pub returns-in-None : goal.returns-in-None
 returns-in-None g c =
     let s = c.args.shelf.now in
-    let e = ap length (kept-none (wanted g.S.Of.Value.order c.args.name None c.loop-count.last) (g.S.Shelf.items s) (sym c.in-None.ensures)) in
+    let e = ap length (kept-none (wanted g.S.Of.Ord.cmp c.args.name None c.loop-count.last) (g.S.Shelf.items s) (sym c.in-None.ensures)) in
     omega (arith, e, c.loop-count.invariant)
 
 pub loop-count-preserved : goal.loop-count-preserved
 loop-count-preserved g c =
     let s = c.args.shelf.now in
-    let e = ap length (rest_more g.met.S.Of.Value.total c.args.name None c.loop-count.last (g.S.Shelf.items s) (g.met.S.Shelf.ascending s c.requires) c.in-Some.item (sym c.in-Some.ensures)) in
+    let e = ap length (rest_more g.met.S.Of.Value.total c.args.name None c.loop-count.last (g.S.Shelf.items s) (g.met.S.Shelf.ascending s) c.in-Some.item (sym c.in-Some.ensures)) in
     omega (arith, e, c.loop-count.invariant)
 
 pub returns : goal.returns

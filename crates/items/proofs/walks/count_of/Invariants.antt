@@ -7,4 +7,4 @@ use Rattle.items.proofs.walks.count_of.Given as goal
 abbrev pub invariant-loop-count : goal.invariant-loop-count
 invariant-loop-count g l =
     let xs = g.S.Shelf.items l.shelf in
-    l.count + length (kept (wanted g.S.Of.Value.order l.name None l.last) xs) ≡ length (kept (λ y. eqb y.name l.name) xs)
+    l.count + length (kept (wanted g.S.Of.Ord.cmp l.name None l.last) xs) ≡ length (kept (λ y. eqb y.name l.name) xs)

@@ -8,7 +8,7 @@ abbrev pub invariant-loop-item : goal.invariant-loop-item
 invariant-loop-item g l =
     let xs = g.S.Shelf.items l.shelf in
     let shows = g.L.Listing.shows l.listing in
-    Filling l.initial.out l.place (map shows (kept (wanted g.V.Value.order l.name None None) xs)) l.out l.after (map shows (kept (wanted g.V.Value.order l.name None l.above) xs))
+    Filling l.initial.out l.place (map shows (kept (wanted g.V.Ord.cmp l.name None None) xs)) l.out l.after (map shows (kept (wanted g.V.Ord.cmp l.name None l.above) xs))
 
 abbrev pub decreases-loop-item : goal.decreases-loop-item
-decreases-loop-item g l = length (kept (wanted g.V.Value.order l.name None l.above) (g.S.Shelf.items l.shelf))
+decreases-loop-item g l = length (kept (wanted g.V.Ord.cmp l.name None l.above) (g.S.Shelf.items l.shelf))

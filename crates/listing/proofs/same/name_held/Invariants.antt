@@ -9,7 +9,7 @@ abbrev pub invariant-loop-item : goal.invariant-loop-item
 invariant-loop-item g l =
     let xs = g.S.Shelf.items l.left in
     let ys = g.T.Shelf.items l.other in
-    all_held (item_order g.V.Value.order) (kept (wanted g.V.Value.order l.name None l.above) xs) ys ≡ all_held (item_order g.V.Value.order) (kept (named l.name) xs) ys
+    all_held (item_order g.V.Ord.cmp) (kept (wanted g.V.Ord.cmp l.name None l.above) xs) ys ≡ all_held (item_order g.V.Ord.cmp) (kept (named l.name) xs) ys
 
 abbrev pub decreases-loop-item : goal.decreases-loop-item
-decreases-loop-item g l = length (kept (wanted g.V.Value.order l.name None l.above) (g.S.Shelf.items l.left))
+decreases-loop-item g l = length (kept (wanted g.V.Ord.cmp l.name None l.above) (g.S.Shelf.items l.left))

@@ -9,6 +9,6 @@ returns g c =
     let t = c.args.other.now in
     let o = item-total g.met.V.Value.total in
     record {
-      same = λ r. same-by-count o (g.S.Shelf.items s) (g.T.Shelf.items t) (g.met.S.Shelf.ascending s c.requires.left) (g.met.T.Shelf.ascending t c.requires.other) (sym c.as_many_held.ensures ∙ r);
+      same = λ r. same-by-count o (g.S.Shelf.items s) (g.T.Shelf.items t) (g.met.S.Shelf.ascending s) (g.met.T.Shelf.ascending t) (sym c.as_many_held.ensures ∙ r);
       differ = λ e. c.as_many_held.ensures ∙ count-of-same o (g.S.Shelf.items s) (g.T.Shelf.items t) e;
     }

@@ -9,23 +9,23 @@ use Rattle.opening.proofs.starts.start_items.Goals as goal
 
 pub start_one-requires : goal.start_one-requires
 start_one-requires g c =
-    let K = values_by g.S.Of.Value.order g.S.Of.Value.blank g.S.Of.Value.reads in
+    let K = values_by g.S.Of.Ord.cmp g.S.Of.Value.blank g.S.Of.Value.reads in
     let ds = c.args.states.now in
     let d = get_or ds c.loop-i.i unnamed in
-    let r = inits-room K ds c.loop-i.i d c.loop-i-test.true refl (g.S.Shelf.limit c.loop-i.shelf) (omega (arith, c.requires.room, c.loop-i.invariant.1)) in
-    let e = ap (λ xs. length (started_with K c.loop-i.i d xs)) c.loop-i.invariant.2 in
-    record { right = c.loop-i.invariant.0; room = omega (arith, r, e) }
+    let r = inits-room K ds c.loop-i.i d c.loop-i-test.true refl (g.S.Shelf.limit c.loop-i.shelf) (omega (arith, c.requires.room, c.loop-i.invariant.0)) in
+    let e = ap (λ xs. length (started_with K c.loop-i.i d xs)) c.loop-i.invariant.1 in
+    record { room = omega (arith, r, e) }
 
 pub loop-i-preserved : goal.loop-i-preserved
 loop-i-preserved g c =
-    let K = values_by g.S.Of.Value.order g.S.Of.Value.blank g.S.Of.Value.reads in
+    let K = values_by g.S.Of.Ord.cmp g.S.Of.Value.blank g.S.Of.Value.reads in
     let ds = c.args.states.now in
     let d = get_or ds c.loop-i.i unnamed in
     let s = c.start_one.ensures in
-    (s.right, s.limit ∙ c.loop-i.invariant.1, s.items ∙ ap (started_with K c.loop-i.i d) c.loop-i.invariant.2 ∙ inits-more K ds c.loop-i.i d c.loop-i-test.true refl)
+    (s.limit ∙ c.loop-i.invariant.0, s.items ∙ ap (started_with K c.loop-i.i d) c.loop-i.invariant.1 ∙ inits-more K ds c.loop-i.i d c.loop-i-test.true refl)
 
 pub returns : goal.returns
 returns g c =
-    let K = values_by g.S.Of.Value.order g.S.Of.Value.blank g.S.Of.Value.reads in
+    let K = values_by g.S.Of.Ord.cmp g.S.Of.Value.blank g.S.Of.Value.reads in
     let ds = c.args.states.now in
-    record { right = c.loop-i.invariant.0; limit = c.loop-i.invariant.1; items = c.loop-i.invariant.2 ∙ ap (inits_from K 0) (take_all c.loop-i.i ds c.loop-i-test.false) }
+    record { limit = c.loop-i.invariant.0; items = c.loop-i.invariant.1 ∙ ap (inits_from K 0) (take_all c.loop-i.i ds c.loop-i-test.false) }

@@ -7,13 +7,14 @@ returns-then-is_absent g c = record { value = field-none g.met.V.Value.form c.ar
 
 pub overflow_add-result : goal.overflow_add-result
 overflow_add-result g c =
-    let h = end-within g.met.V.Value.form c.args.bytes.now c.args.at c.args.map (λ i. (c.type_inv.bytes i).fits) c.requires _ _ (sym c.in-Ok.is ∙ c.read.ensures) in
+    let h = end-within g.met.V.Value.form c.args.bytes.now c.args.at c.args.map (λ i. (c.type_inv.bytes i).fits) c.requires _ _ c.in-Ok.ensures in
     record { fits = omega arith }
 
 pub returns-in-Ok : goal.returns-in-Ok
-returns-in-Ok g c =
-    let e = sym c.in-Ok.is ∙ c.read.ensures in
-    record { value = field-read g.met.V.Value.form c.args.bytes.now c.args.at c.args.map (sym c.is_absent.ensures ∙ c.if-is_absent.false) _ e; within = end-within g.met.V.Value.form c.args.bytes.now c.args.at c.args.map (λ i. (c.type_inv.bytes i).fits) c.requires _ _ e }
+returns-in-Ok g c = record {
+  value = field-read g.met.V.Value.form c.args.bytes.now c.args.at c.args.map (sym c.is_absent.ensures ∙ c.if-is_absent.false) _ c.in-Ok.ensures;
+  within = end-within g.met.V.Value.form c.args.bytes.now c.args.at c.args.map (λ i. (c.type_inv.bytes i).fits) c.requires _ _ c.in-Ok.ensures;
+}
 
 pub returns-in-Err : goal.returns-in-Err
 returns-in-Err g c =

@@ -1,16 +1,12 @@
-use Rattle.std.proofs.Common.{sym, ◌∙◌}
-use Rattle.std.proofs.lemmas.List.{at_drop_all}
+use Rattle.std.proofs.Common.{◌∙◌, rules, tests}
+use Rattle.std.proofs.lemmas.Iterator.{YieldsList-from_slice}
+use Rattle.std.proofs.lemmas.Iterator.Search.{any_from_yields_List}
 use Rattle.rules.specs.Kinds.{values_by}
-use Rattle.sheets.specs.Words.{some}
 use Rattle.step.specs.Sets.{takes_item}
-use Rattle.step.proofs.SetSizes.{some-here, some-later, taken-some}
+use Rattle.step.proofs.SetSizes.{taken-some}
 use Rattle.step.proofs.causes.is_taken.Goals as goal
 
-pub returns-then-takes_item : goal.returns-then-takes_item
-returns-then-takes_item g c = some-here (takes_item g.V.Value.order c.args.item.now) c.args.moves.now c.loop-change.change-index c.change-item.result c.loop-change-test.true c.change-item.is c.loop-change.invariant c.if-takes_item.ensures ∙ taken-some (values_by g.V.Value.order g.V.Value.blank g.V.Value.reads) c.args.moves.now c.args.item.now
-
-pub loop-change-preserved : goal.loop-change-preserved
-loop-change-preserved g c = some-later (takes_item g.V.Value.order c.args.item.now) c.args.moves.now c.loop-change.change-index c.change-item.result c.loop-change-test.true c.change-item.is c.loop-change.invariant c.if-takes_item.ensures
-
 pub returns : goal.returns
-returns g c = sym (c.loop-change.invariant ∙ at_drop_all (some (takes_item g.V.Value.order c.args.item.now)) c.args.moves.now c.loop-change.change-index c.loop-change-test.false) ∙ taken-some (values_by g.V.Value.order g.V.Value.blank g.V.Value.reads) c.args.moves.now c.args.item.now
+returns g c =
+    any_from_yields_List (takes_item g.V.Ord.cmp c.args.item.now) _ _ _ c.any.ensures.ran (YieldsList-from_slice c.args.moves.now cc) (λ x r q k. search (rules, tests))
+    ∙ taken-some (values_by g.V.Ord.cmp g.V.Value.blank g.V.Value.reads) c.args.moves.now c.args.item.now

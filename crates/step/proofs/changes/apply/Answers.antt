@@ -3,8 +3,8 @@ use Rattle.step.proofs.changes.apply.Goals as goal
 
 pub take_and_ask-requires : goal.take_and_ask-requires
 unfolding new_set
-take_and_ask-requires g c = record { right = c.requires.right; room = c.requires.room }
+take_and_ask-requires g c = record { room = c.requires.room }
 
-pub returns : goal.returns
+pub returns-clause-items : goal.returns-clause-items
 unfolding new_set
-returns g c = record { right = c.take_and_ask.ensures.right; limit = c.take_and_ask.ensures.limit; items = c.take_and_ask.ensures.items }
+returns-clause-items g c = c.take_and_ask.ensures.items

@@ -5,10 +5,10 @@ use Rattle.step.proofs.events.apply_event.Goals as goal
 
 pub apply-requires : goal.apply-requires
 apply-requires g c =
-    let e = set_after_lem (values_by g.V.Value.order g.V.Value.blank g.V.Value.reads) c.args.at.now (g.S.Shelf.items c.args.shelf.now) c.args.buffer.now c.args.count c.requires.moves in
-    record { right = c.requires.right; room = omega (arith, ap length e, c.requires.room) }
+    let e = set_after_lem (values_by g.V.Ord.cmp g.V.Value.blank g.V.Value.reads) c.args.at.now (g.S.Shelf.items c.args.shelf.now) c.args.buffer.now c.args.count c.requires.moves in
+    record { room = omega (arith, ap length e, c.requires.room) }
 
 pub returns : goal.returns
 returns g c =
-    let e = set_after_lem (values_by g.V.Value.order g.V.Value.blank g.V.Value.reads) c.args.at.now (g.S.Shelf.items c.args.shelf.now) c.args.buffer.now c.args.count c.requires.moves in
-    record { right = c.apply.ensures.right; limit = c.apply.ensures.limit; items = c.apply.ensures.items ∙ e }
+    let e = set_after_lem (values_by g.V.Ord.cmp g.V.Value.blank g.V.Value.reads) c.args.at.now (g.S.Shelf.items c.args.shelf.now) c.args.buffer.now c.args.count c.requires.moves in
+    record { limit = c.apply.ensures.limit; items = c.apply.ensures.items ∙ e }

@@ -1,19 +1,12 @@
-use Rattle.std.proofs.Common.{None, rules}
-use Rattle.std.proofs.lemmas.List.{at_drop_more, at_drop_all}
-use Rattle.step.specs.Scopes.{own_field}
+use Rattle.std.proofs.Common.{rules, tests}
+use Rattle.std.proofs.lemmas.Iterator.Search.{find_from_yields_List}
+use Rattle.sheets.proofs.Present.{yields_present}
+use Rattle.sheets.specs.declared.tables.Cell.{Cell}
+use Rattle.step.specs.Scopes.{own_first}
+use Rattle.step.proofs.OwnFields.{own-read}
 use Rattle.step.proofs.scopes.own_field.Goals as goal
 
-pub returns-in-Some : goal.returns-in-Some
-returns-in-Some c =
-    let e = at_drop_more own_field c.args.cells.now c.loop-place.place-index None c.loop-place-test.true in
-    search rules
-
-pub loop-place-preserved : goal.loop-place-preserved
-loop-place-preserved c =
-    let e = at_drop_more own_field c.args.cells.now c.loop-place.place-index None c.loop-place-test.true in
-    search rules
-
-pub returns : goal.returns
-returns c =
-    let e = at_drop_all own_field c.args.cells.now c.loop-place.place-index c.loop-place-test.false in
-    search rules
+pub returns-clause-field : goal.returns-clause-field
+returns-clause-field c =
+    let f = find_from_yields_List (λ (x : Cell). own_first x.want) _ _ _ c.find.ensures.ran (yields_present c.args.cells.now (cc) (cc) (cc) (cc)) (λ x b q k. search (rules, tests)) in
+    own-read c.args.cells.now c.find.result c.map.result c.filter.result f (search (rules, tests)) (search (rules, tests))

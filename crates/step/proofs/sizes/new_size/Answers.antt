@@ -9,34 +9,22 @@ use Rattle.step.proofs.SetSizes.{left_by, with-next}
 use Rattle.step.proofs.SetSteps.{new-set-is}
 use Rattle.step.proofs.sizes.new_size.Goals as goal
 
-pub loop-i-init : goal.loop-i-init
-loop-i-init g c = (c.left_size-size.ensures, omega arith)
-
-pub size_after-size-requires : goal.size_after-size-requires
-size_after-size-requires g c =
-    let K = (values_by g.V.Value.order g.V.Value.blank g.V.Value.reads) in
-    let t = g.met.V.Value.total in
-    let F = g.S.Shelf.items c.args.shelf.now in
-    let u = g.met.S.Shelf.ascending c.args.shelf.now c.requires in
-    let z : c.loop-i.i ≡ c.loop-i.i - 0 = omega arith in
-    record { right = c.requires; room = omega (arith, c.loop-i.invariant.1); size = c.loop-i.invariant.0 ∙ ap (λ k. length (with_all (item_order g.V.Value.order) (left_by K c.args.moves.now F) (moved Asked (take k c.args.moves.now)))) z }
-
 pub loop-i-preserved : goal.loop-i-preserved
 loop-i-preserved g c =
-    let K = (values_by g.V.Value.order g.V.Value.blank g.V.Value.reads) in
+    let K = (values_by g.V.Ord.cmp g.V.Value.blank g.V.Value.reads) in
     let t = g.met.V.Value.total in
     let F = g.S.Shelf.items c.args.shelf.now in
-    let u = g.met.S.Shelf.ascending c.args.shelf.now c.requires in
+    let u = g.met.S.Shelf.ascending c.args.shelf.now in
     let z : c.loop-i.i - 0 ≡ c.loop-i.i = omega arith in (
-      c.size_after-size.ensures.value ∙ ap (λ k. length (in_by g.V.Value.order c.index-moves-i.result (with_all (item_order g.V.Value.order) (left_by K c.args.moves.now F) (moved Asked (take k c.args.moves.now))))) z
+      c.size_after-size.ensures.value ∙ ap (λ k. length (in_by g.V.Ord.cmp c.index-moves-i.result (with_all (item_order g.V.Ord.cmp) (left_by K c.args.moves.now F) (moved Asked (take k c.args.moves.now))))) z
           ∙ ap length (with-next K t c.args.moves.now c.loop-i.i c.index-moves-i.result c.loop-i-test.true c.index-moves-i.is (left_by K c.args.moves.now F)),
       omega (arith, c.size_after-size.ensures.most, c.loop-i.invariant.1),
     )
 
 pub returns : goal.returns
 returns g c =
-    let K = (values_by g.V.Value.order g.V.Value.blank g.V.Value.reads) in
+    let K = (values_by g.V.Ord.cmp g.V.Value.blank g.V.Value.reads) in
     let t = g.met.V.Value.total in
     let F = g.S.Shelf.items c.args.shelf.now in
-    let u = g.met.S.Shelf.ascending c.args.shelf.now c.requires in
-    c.loop-i.invariant.0 ∙ ap (λ l. length (with_all (item_order g.V.Value.order) (left_by K c.args.moves.now F) (moved Asked l))) (take_all c.loop-i.i c.args.moves.now c.loop-i-test.false) ∙ ap length (new-set-is K c.args.moves.now F (left_by K c.args.moves.now F) refl)
+    let u = g.met.S.Shelf.ascending c.args.shelf.now in
+    c.loop-i.invariant.0 ∙ ap (λ l. length (with_all (item_order g.V.Ord.cmp) (left_by K c.args.moves.now F) (moved Asked l))) (take_all c.loop-i.i c.args.moves.now c.loop-i-test.false) ∙ ap length (new-set-is K c.args.moves.now F (left_by K c.args.moves.now F) refl)

@@ -8,16 +8,16 @@ use Rattle.step.proofs.sizes.size_after.Goals as goal
 
 pub returns-then-joins : goal.returns-then-joins
 returns-then-joins g c =
-    let K = (values_by g.V.Value.order g.V.Value.blank g.V.Value.reads) in
+    let K = (values_by g.V.Ord.cmp g.V.Value.blank g.V.Value.reads) in
     let t = g.met.V.Value.total in
     let F = g.S.Shelf.items c.args.shelf.now in
-    let u = g.met.S.Shelf.ascending c.args.shelf.now c.requires.right in
-    record { value = size-more K t c.args.change.now (with_all (item_order g.V.Value.order) (left_by K c.args.moves.now F) (moved Asked c.args.front.now)) (ascends-there K t c.args.moves.now c.args.front.now F u) c.args.size c.requires.size c.if-joins.ensures; most = omega arith }
+    let u = g.met.S.Shelf.ascending c.args.shelf.now in
+    record { value = size-more K t c.args.change.now (with_all (item_order g.V.Ord.cmp) (left_by K c.args.moves.now F) (moved Asked c.args.front.now)) (ascends-there K t c.args.moves.now c.args.front.now F u) c.args.size c.requires.size c.if-joins.ensures; most = omega arith }
 
 pub returns-else-joins : goal.returns-else-joins
 returns-else-joins g c =
-    let K = (values_by g.V.Value.order g.V.Value.blank g.V.Value.reads) in
+    let K = (values_by g.V.Ord.cmp g.V.Value.blank g.V.Value.reads) in
     let t = g.met.V.Value.total in
     let F = g.S.Shelf.items c.args.shelf.now in
-    let u = g.met.S.Shelf.ascending c.args.shelf.now c.requires.right in
-    record { value = size_same K t c.args.change.now (with_all (item_order g.V.Value.order) (left_by K c.args.moves.now F) (moved Asked c.args.front.now)) (ascends-there K t c.args.moves.now c.args.front.now F u) c.args.size c.requires.size c.if-joins.ensures; most = omega arith }
+    let u = g.met.S.Shelf.ascending c.args.shelf.now in
+    record { value = size_same K t c.args.change.now (with_all (item_order g.V.Ord.cmp) (left_by K c.args.moves.now F) (moved Asked c.args.front.now)) (ascends-there K t c.args.moves.now c.args.front.now F u) c.args.size c.requires.size c.if-joins.ensures; most = omega arith }

@@ -13,10 +13,10 @@ use Rattle.step.proofs.walk.all_into.Goals as goal
 pub loop-name-init : goal.loop-name-init
 loop-name-init g c =
     let F = g.S.Shelf.items c.args.shelf.now in
-    let K = values_by g.V.Value.order g.V.Value.blank g.V.Value.reads in
+    let K = values_by g.V.Ord.cmp g.V.Value.blank g.V.Value.reads in
     let many = g.E.Effect.of_entry c.args.effect.now c.args.at.now in
     let one = g.E.Effect.of_item c.args.effect.now c.args.at.now in
-    filling-start _ _ _ _ (joined-start g.V.Value.order (item_gives many K c.args.at.now F one) F)
+    filling-start _ _ _ _ (joined-start g.V.Ord.cmp (item_gives many K c.args.at.now F one) F)
 
 pub overflow_cast-name : goal.overflow_cast-name
 overflow_cast-name g c =
@@ -27,15 +27,15 @@ overflow_cast-name g c =
 pub loop-name-preserved : goal.loop-name-preserved
 loop-name-preserved g c =
     let F = g.S.Shelf.items c.args.shelf.now in
-    let K = values_by g.V.Value.order g.V.Value.blank g.V.Value.reads in
+    let K = values_by g.V.Ord.cmp g.V.Value.blank g.V.Value.reads in
     let many = g.E.Effect.of_entry c.args.effect.now c.args.at.now in
     let one = g.E.Effect.of_item c.args.effect.now c.args.at.now in
-    filling-more _ _ _ _ c.loop-name.invariant (joined-names g.V.Value.order (item_gives many K c.args.at.now F one) F c.loop-name.name (g.met.S.Shelf.ascending c.args.shelf.now c.requires)) c.name_into-after.ensures.out c.name_into-after.ensures.place
+    filling-more _ _ _ _ c.loop-name.invariant (joined-names g.V.Ord.cmp (item_gives many K c.args.at.now F one) F c.loop-name.name (g.met.S.Shelf.ascending c.args.shelf.now)) c.name_into-after.ensures.out c.name_into-after.ensures.place
 
 pub returns : goal.returns
 returns g c =
     let F = g.S.Shelf.items c.args.shelf.now in
-    let K = values_by g.V.Value.order g.V.Value.blank g.V.Value.reads in
+    let K = values_by g.V.Ord.cmp g.V.Value.blank g.V.Value.reads in
     let many = g.E.Effect.of_entry c.args.effect.now c.args.at.now in
     let one = g.E.Effect.of_item c.args.effect.now c.args.at.now in
     let e = joined-none (item_gives many K c.args.at.now F one) (from_name c.loop-name.name)

@@ -9,5 +9,5 @@ use Rattle.step.proofs.walk.all_into.Given as goal
 abbrev pub invariant-loop-name : goal.invariant-loop-name
 invariant-loop-name g l =
     let F = g.S.Shelf.items l.shelf in
-    let f = item_gives (g.E.Effect.of_entry l.effect l.at) (values_by g.V.Value.order g.V.Value.blank g.V.Value.reads) l.at F (g.E.Effect.of_item l.effect l.at) in
+    let f = item_gives (g.E.Effect.of_entry l.effect l.at) (values_by g.V.Ord.cmp g.V.Value.blank g.V.Value.reads) l.at F (g.E.Effect.of_item l.effect l.at) in
     Filling l.initial.out 0 (flat_map f F) l.out l.after (flat_map f (kept (from_name l.name) F))

@@ -1,8 +1,13 @@
-use Rattle.values.specs.NumberBytes.{fill_none, fill_more}
+use Rattle.std.proofs.Common.{◌∙◌, ◌-◌, ap, drop, length, length-drop, arith}
+use Rattle.std.proofs.lemmas.List.{take_all}
+use Rattle.values.specs.NumberBytes.{last_bytes}
 use Rattle.values.proofs.words.put_number.Goals as goal
 
-pub loop-left-init : goal.loop-left-init
-loop-left-init c = fill_none c.args.buffer.now c.args.n
-
-pub loop-left-preserved : goal.loop-left-preserved
-loop-left-preserved c = let l = c.loop-left in fill_more l.buffer c.args.n l.left l.n c.loop-left-test.true l.invariant
+pub returns : goal.returns
+returns c =
+    let n = length c.args.buffer.now in
+    let bytes = c.to_be_bytes.result in
+    c.copy_from_slice.ensures.after
+    ∙ take_all _ (drop (8 - n) bytes) (omega (arith, length-drop (8 - n) bytes, ap length c.to_be_bytes.ensures))
+    ∙ ap (drop (8 - n)) c.to_be_bytes.ensures
+    ∙ last_bytes n c.args.n c.requires

@@ -11,23 +11,27 @@ pub count_moves-requires : goal.count_moves-requires
 count_moves-requires g c =
     let b = c.args.self.now in
     record {
-      right = c.requires.right.shelf;
-      room = room-more b.phase b.accepted b.tallies c.requires.right.counts c.requires.more _ (omega (arith, length-take c.args.count c.args.buffer.now, c.ranges.count.fits));
+      room = room-more b.phase b.accepted b.tallies c.args.self.now.counts c.requires.more _ (omega (arith, length-take c.args.count c.args.buffer.now, c.ranges.count.fits));
+    }
+
+pub invariant_of-self : goal.invariant_of-self
+invariant_of-self g c =
+    let K = values_by g.S.Of.Ord.cmp g.S.Of.Value.blank g.S.Of.Value.reads in
+    let b = c.args.self.now in
+    let F = g.S.Shelf.items b.shelf in
+    record {
+      few = omega (arith, c.requires.more, c.next_number-number.ensures);
+      counts = subst (λ n. Most b.phase n c.count_moves.new.tallies) (sym c.next_number-number.ensures) (most-after K c.args.buffer.now c.args.count F b.tallies c.count_moves.new.tallies c.count_moves.ensures b.phase b.accepted b.counts (omega (arith, c.ranges.count.fits)));
     }
 
 pub returns : goal.returns
 unfolding took findings_at
 returns g c =
-    let K = values_by g.S.Of.Value.order g.S.Of.Value.blank g.S.Of.Value.reads in
+    let K = values_by g.S.Of.Ord.cmp g.S.Of.Value.blank g.S.Of.Value.reads in
     let b = c.args.self.now in
     let F = g.S.Shelf.items b.shelf in
     let after = c.count_moves.ensures in
     record {
-      right = record {
-        shelf = c.write_and_apply.ensures.right;
-        few = omega (arith, c.requires.more, c.next_number-number.ensures);
-        counts = subst (λ n. Most b.phase n c.count_moves.new.tallies) (sym c.next_number-number.ensures) (most-after K c.args.buffer.now c.args.count F b.tallies c.count_moves.new.tallies after b.phase b.accepted c.requires.right.counts (omega (arith, c.ranges.count.fits)));
-      };
       book = record {
         phase = refl;
         accepted = c.next_number-number.ensures;

@@ -12,9 +12,9 @@ returns-then-same_items g c =
     let d = c.args.other.now in
     let t = c.same_tallies.ensures in
     record {
-      agree = λ h. agreed b.phase d.phase b.accepted d.accepted b.tallies d.tallies _ _ (g.S.Shelf.limit b.shelf) (g.T.Shelf.limit d.shelf) (c.if-same_items.ensures.same refl) (sym t.answer ∙ h);
-      differ = λ h. t.answer ∙ disagreed b.phase d.phase b.accepted d.accepted b.tallies d.tallies _ _ (g.S.Shelf.limit b.shelf) (g.T.Shelf.limit d.shelf) t.left t.other h;
-      law = law (values_by g.S.Of.Value.order g.S.Of.Value.blank g.S.Of.Value.reads) g.met.S.Of.Value.total (book_view g.S.Shelf.items g.S.Shelf.limit) (book_view g.T.Shelf.items g.T.Shelf.limit);
+      agree = λ h. agreed b.phase d.phase b.accepted d.accepted b.tallies d.tallies _ _ (g.S.Shelf.limit b.shelf) (g.T.Shelf.limit d.shelf) (c.if-same_items.ensures.same refl) (t.same h);
+      differ = λ h. t.differ (disagreed b.phase d.phase b.accepted d.accepted b.tallies d.tallies _ _ (g.S.Shelf.limit b.shelf) (g.T.Shelf.limit d.shelf) t.left t.other h);
+      law = law (values_by g.S.Of.Ord.cmp g.S.Of.Value.blank g.S.Of.Value.reads) g.met.S.Of.Value.total (book_view g.S.Shelf.items g.S.Shelf.limit) (book_view g.T.Shelf.items g.T.Shelf.limit);
     }
 
 pub returns-else-same_items : goal.returns-else-same_items
@@ -22,5 +22,5 @@ returns-else-same_items g c =
     record {
       agree = λ h. absurd (false≢true (sym c.if-same_items.false ∙ h));
       differ = λ h. c.same_items.ensures.differ h.items;
-      law = law (values_by g.S.Of.Value.order g.S.Of.Value.blank g.S.Of.Value.reads) g.met.S.Of.Value.total (book_view g.S.Shelf.items g.S.Shelf.limit) (book_view g.T.Shelf.items g.T.Shelf.limit);
+      law = law (values_by g.S.Of.Ord.cmp g.S.Of.Value.blank g.S.Of.Value.reads) g.met.S.Of.Value.total (book_view g.S.Shelf.items g.S.Shelf.limit) (book_view g.T.Shelf.items g.T.Shelf.limit);
     }

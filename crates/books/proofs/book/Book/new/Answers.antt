@@ -4,17 +4,17 @@ use Rattle.rules.specs.Tallies.{no_tally}
 use Rattle.rules.proofs.Likeness.{made_alike}
 use Rattle.books.proofs.book.Book.new.Goals as goal
 
+pub invariant_of-result : goal.invariant_of-result
+invariant_of-result g c =
+    let a = made_alike 32 (g.S.Shelf.items c.args.shelf) (g.S.Shelf.limit c.args.shelf) in
+    record { few = omega arith; counts = λ k n h. omega (arith, ap (λ ts. count_in (get_or ts n no_tally) k) c.no_tallies.ensures ∙ a.counts k n h) }
+
 pub returns : goal.returns
 returns g c =
     let F = g.S.Shelf.items c.args.shelf in
     let l = g.S.Shelf.limit c.args.shelf in
     let a = made_alike 32 F l in
     record {
-      right = record {
-        shelf = c.requires;
-        few = omega arith;
-        counts = λ k n h. omega (arith, ap (λ ts. count_in (get_or ts n no_tally) k) c.no_tallies.ensures ∙ a.counts k n h);
-      };
       made = record {
         phase = refl;
         accepted = refl;

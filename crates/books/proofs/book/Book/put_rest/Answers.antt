@@ -11,7 +11,7 @@ use Rattle.books.proofs.book.Book.put_rest.Goals as goal
 
 pub returns : goal.returns
 returns g c =
-    let K = values_by g.S.Of.Value.order g.S.Of.Value.blank g.S.Of.Value.reads in
+    let K = values_by g.S.Of.Ord.cmp g.S.Of.Value.blank g.S.Of.Value.reads in
     let s = view_of c.args.sheet.now in
     let e = c.args.event.now in
     let pad = c.args.moves.now in
@@ -21,7 +21,6 @@ returns g c =
     let from = c.args.from in
     let came = subst (λ l. Came (put_at K s c.args.place b e pad l) c.put_at.result c.put_at.new.moves c.put_at.new.findings b') (take_rest roll from) c.put_at.ensures.came in
     record {
-      right = c.put_at.ensures.right;
       front = take-put_mid_below from (length roll - from) roll c.put_at.new.findings from (omega arith) c.requires.within;
       came = subst (λ l. Came (put_at K s c.args.place b e pad (drop from roll)) c.put_at.result c.put_at.new.moves l b') (sym (written-rest from roll c.put_at.new.findings c.requires.within)) came;
       fits = made-fits K s c.args.place b e pad (drop from roll) from (length roll) (omega (arith, length-drop from roll, c.requires.within)) c.put_at.result came.back;

@@ -10,9 +10,9 @@ use Rattle.firing.proofs.at.SheetEvent.exists.Given as goal
 -- an item of the pattern is among those to come, if there is one
 abbrev pub invariant-loop-other : goal.invariant-loop-other
 invariant-loop-other g l =
-    let p = is_of (values_by g.V.Value.order g.V.Value.blank g.V.Value.reads) (sheet_in l.self) (event_in l.self) l.item l.row l.pattern in
+    let p = is_of (values_by g.V.Ord.cmp g.V.Value.blank g.V.Value.reads) (sheet_in l.self) (event_in l.self) l.item l.row l.pattern in
     let xs = g.S.Shelf.items l.shelf in
-    some p (kept (wanted g.V.Value.order l.pattern.state l.first l.above) xs) ≡ some p xs
+    some p (kept (wanted g.V.Ord.cmp l.pattern.state l.first l.above) xs) ≡ some p xs
 
 abbrev pub decreases-loop-other : goal.decreases-loop-other
-decreases-loop-other g l = length (kept (wanted g.V.Value.order l.pattern.state l.first l.above) (g.S.Shelf.items l.shelf))
+decreases-loop-other g l = length (kept (wanted g.V.Ord.cmp l.pattern.state l.first l.above) (g.S.Shelf.items l.shelf))

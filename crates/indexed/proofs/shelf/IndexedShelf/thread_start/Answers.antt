@@ -7,8 +7,8 @@ returns-then-before-self g c =
     let x = c.in-Some.x in
     let b = c.chain_before-before in
     record {
-      walk = entry-walk g.met.V.Value.total g.met.V.Bucketed.below c.requires x b.ensures.name b.result b.ensures.value c.if-before-self.true;
-      first = entry-begins g.met.V.Value.total g.met.V.Bucketed.below c.requires x b.ensures.name b.result b.ensures.value c.if-before-self.true
+      walk = entry-walk g.met.V.Value.total g.met.V.Bucketed.below c.args.self.now.sound x b.ensures.name b.result b.ensures.value c.if-before-self.true;
+      first = entry-begins g.met.V.Value.total g.met.V.Bucketed.below c.args.self.now.sound x b.ensures.name b.result b.ensures.value c.if-before-self.true
           c.args.name c.args.above c.if-x-name.true c.in-Some.is;
     }
 
@@ -16,8 +16,8 @@ pub returns : goal.returns
 returns g c =
     let h : c.args.name < 256 = c.ranges.name.fits in
     record {
-      walk = name-walk g.met.V.Value.total g.met.V.Bucketed.below c.requires c.args.name h;
-      first = name-first g.met.V.Value.total g.met.V.Bucketed.below c.requires c.args.name c.args.above h;
+      walk = name-walk g.met.V.Value.total g.met.V.Bucketed.below c.args.self.now.sound c.args.name h;
+      first = name-first g.met.V.Value.total g.met.V.Bucketed.below c.args.self.now.sound c.args.name c.args.above h;
     }
 
 pub returns-in-Some-locate : goal.returns-in-Some-locate
@@ -26,7 +26,7 @@ returns-in-Some-locate g c =
     let b = c.chain_before-before in
     let w = c.in-Some-locate.ensures in
     record {
-      walk = held-walk g.met.V.Value.total g.met.V.Bucketed.below c.requires x b.ensures.name c.in-Some-locate.cell w.is _ w.there;
-      first = held-begins g.met.V.Value.total g.met.V.Bucketed.below c.requires x b.ensures.name c.in-Some-locate.cell w.is _ w.there
+      walk = held-walk g.met.V.Value.total g.met.V.Bucketed.below c.args.self.now.sound x b.ensures.name c.in-Some-locate.cell w.is _ w.there;
+      first = held-begins g.met.V.Value.total g.met.V.Bucketed.below c.args.self.now.sound x b.ensures.name c.in-Some-locate.cell w.is _ w.there
           c.args.name c.args.above c.if-x-name.true c.in-Some.is;
     }

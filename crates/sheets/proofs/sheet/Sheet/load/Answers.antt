@@ -8,6 +8,6 @@ table_of-requires g c =
     let p = c.in_ok-states.ensures.items in
     let q = c.in_ok-rows.ensures.items in
     record {
-      sound = copies-sound a.states.now _ a.rows.now _ a.kinds.now (length a.constants.now) p q c.in_default.ensures;
+      sound = copies-sound a.states.now _ a.rows.now _ a.kinds.now (length a.constants.now) p q c.in_ok-check.ensures;
       keyed = copies-keyed a.states.now _ a.rows.now _ a.kinds.now _ p q c.is_keyed-keyed.ensures;
     }

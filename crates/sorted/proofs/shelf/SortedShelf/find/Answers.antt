@@ -1,18 +1,16 @@
-use Rattle.std.proofs.Common.{sym, ◌∙◌}
-use Rattle.sorted.proofs.Steps.{found, passed, ended}
+use Rattle.std.proofs.Common.{ap, sym, ◌∙◌}
+use Rattle.std.specs.List.{slice_get}
+use Rattle.items.specs.Ascending.{met}
+use Rattle.items.proofs.Ascending.{first-at}
+use Rattle.items.proofs.Orders.{item-total}
+use Rattle.sorted.specs.Place.{place_of}
+use Rattle.sorted.proofs.Places.{steady}
 use Rattle.sorted.proofs.shelf.SortedShelf.find.Goals as goal
 
-pub returns-in-Equal : goal.returns-in-Equal
-returns-in-Equal g c =
-    found g.met.V.Value.total c.args.self.now.cells.items c.requires.right c.args.mark.now c.args.place c.requires.place
-    c.in-Some.y c.in-Some.ensures (sym c.in-Equal.ensures)
-
-pub returns-in_default : goal.returns-in_default
-returns-in_default g c =
-    passed g.met.V.Value.total c.args.self.now.cells.items c.requires.right c.args.mark.now c.args.place c.requires.place
-    c.in-Some.y c.in-Some.ensures (λ e. c.in_default.not-Equal (c.place.ensures ∙ e))
-
-pub returns-in-None : goal.returns-in-None
-returns-in-None g c =
-    ended g.met.V.Value.total c.args.self.now.cells.items c.requires.right c.args.mark.now c.args.place c.requires.place
-    c.in-None.ensures
+pub returns : goal.returns
+returns g c =
+    let t = g.met.V.Value.total in
+    let xs = c.args.self.now.cells.items in
+    c.met.ensures
+    ∙ ap (met (place_of g.V.Ord.cmp c.args.mark.now)) (c.item_at.ensures ∙ ap (slice_get xs) c.requires.place)
+    ∙ sym (first-at (item-total t) (steady t c.args.mark.now) xs c.args.self.now.ascending)

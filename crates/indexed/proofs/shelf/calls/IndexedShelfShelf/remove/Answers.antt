@@ -6,7 +6,6 @@ use Rattle.indexed.proofs.shelf.calls.IndexedShelfShelf.remove.Goals as goal
 pub returns-in_default : goal.returns-in_default
 returns-in_default g c =
     record {
-      right = c.requires;
       answer = sym c.in_default.ensures;
       items = sym (without-none (item-total g.met.V.Value.total) c.args.item.now _ c.in_default.ensures);
       limit = refl;

@@ -7,7 +7,6 @@ pub returns-then-not-stands_at : goal.returns-then-not-stands_at
 returns-then-not-stands_at g c =
     let n = c.if-not-stands_at.ensures in
     record {
-      right = c.requires;
       answer = n;
       items = sym (without-none (item-total g.met.V.Value.total) c.args.item.now c.args.self.now.cells.items (sym n));
       limit = refl;
