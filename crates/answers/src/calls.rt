@@ -2,6 +2,7 @@
 ghost use Rattle.std.specs.Prelude.{◌≡◌};
 ghost use Rattle.answers.specs.Shown.{compared_text, shown_counts};
 
+use crate::front::front;
 use crate::moves::{show_findings, show_items, show_moves};
 use crate::output::Output;
 use crate::refused::show_refusal;
@@ -33,7 +34,7 @@ pub fn show_put<V: ScriptValue>(
             let found = accepted.findings;
             writeln!(out, "accepted moves {moved} findings {found}")?;
             show_moves(out, moves)?;
-            show_findings(out, findings, found)
+            show_findings(out, front(findings, found))
         }
         Err(refusal) => {
             show_refusal(out, refusal)?;
@@ -56,7 +57,7 @@ pub fn show_batched<V: ScriptValue>(
         show_refusal(out, refusal)?;
     }
     show_moves(out, moves)?;
-    show_findings(out, findings, found)
+    show_findings(out, front(findings, found))
 }
 
 // What `end` answered, and the findings that it left.
@@ -68,20 +69,20 @@ pub fn show_ended<V: ScriptValue>(
     match answer {
         Ok(found) => {
             writeln!(out, "ended findings {found}")?;
-            show_findings(out, findings, found)
+            show_findings(out, front(findings, found))
         }
         Err(refusal) => show_refusal(out, refusal),
     }
 }
 
-// How many items are open, and those that were listed.
+// How many items are open, and those that were listed, as far as the room reaches.
 pub fn show_listed<V: ScriptValue>(
     out: &mut Output,
     count: usize,
     room: &[Item<V>],
 ) -> io::Result<()> {
     writeln!(out, "listed {count}")?;
-    show_items(out, room, count)
+    show_items(out, front(room, count))
 }
 
 // The seven counts of a name, in the order in which they are shown.

@@ -52,25 +52,17 @@ pub fn show_moves<V: ScriptValue>(out: &mut Output, moves: &[Move<V>]) -> io::Re
     Ok(())
 }
 
-// The findings at the front, as many as were told.
-pub fn show_findings<V: ScriptValue>(
-    out: &mut Output,
-    findings: &[Finding<V>],
-    count: usize,
-) -> io::Result<()> {
-    for finding in front(findings, count) {
+// The findings.
+pub fn show_findings<V: ScriptValue>(out: &mut Output, findings: &[Finding<V>]) -> io::Result<()> {
+    for finding in findings {
         writeln!(out, "  finding {finding}")?;
     }
     Ok(())
 }
 
-// The items at the front, as many as were told, as far as the room reaches.
-pub fn show_items<V: ScriptValue>(
-    out: &mut Output,
-    room: &[Item<V>],
-    count: usize,
-) -> io::Result<()> {
-    for item in front(room, count) {
+// The items.
+pub fn show_items<V: ScriptValue>(out: &mut Output, items: &[Item<V>]) -> io::Result<()> {
+    for item in items {
         writeln!(out, "  item {item}")?;
     }
     Ok(())
