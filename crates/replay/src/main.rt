@@ -2,9 +2,11 @@
 
 #![tactic(auto)]
 
+mod replaying;
 mod session;
 mod sessions;
 
+use replaying::Replay;
 use scripts::Script;
 use sessions::replay;
 use std::io;
@@ -13,7 +15,11 @@ use std::io::{BufWriter, Read, Write};
 fn main(rt: HostRuntime) -> io::Result<()> {
     let mut bytes = Vec::new(rt.alloc());
     rt.stdin().read_to_end(&mut bytes)?;
-    let mut out = BufWriter::new(rt.alloc(), rt.stdout())?;
-    replay(&rt, &mut out, &mut Script::new(bytes.as_slice()))?;
-    out.flush()
+    let mut run = Replay {
+        rt: &rt,
+        out: BufWriter::new(rt.alloc(), rt.stdout())?,
+        script: Script::new(bytes.as_slice()),
+    };
+    replay(&mut run)?;
+    run.out.flush()
 }

@@ -1,9 +1,10 @@
 // A session over one kind of value: what a `sheet` line begins.
 ghost use Rattle.replay.specs.Lines.{ShorterIfSome};
 
+use crate::replaying::Replay;
 use answers::{Fault, Output, report, show_batch, show_keyed, show_refusal, show_written};
 use commands::{Command, command_of};
-use scripts::{Line, Misfit, Script, ScriptValue, ValueKind, line_of, words_of};
+use scripts::{Line, Misfit, ScriptValue, ValueKind, line_of, words_of};
 use sessionbooks::SessionBooks;
 use sheets::{LoadError, Sheet};
 use std::alloc::Global;
@@ -92,20 +93,14 @@ impl<V: ScriptValue + Bucketed> Session<V> {
     }
 
     // Obeys lines under a sheet, until another is loaded or another session begins, or else to the script's end.
-    pub fn run(
-        &mut self,
-        rt: &HostRuntime,
-        out: &mut Output,
-        script: &mut Script,
-        sheet: &Sheet<V>,
-    ) -> io::Result<Option<Stop<V>>>
-        ensures { ShorterIfSome result script.old.left.now script.new.left.now }
+    pub fn run(&mut self, run: &mut Replay, sheet: &Sheet<V>) -> io::Result<Option<Stop<V>>>
+        ensures { ShorterIfSome result run.old.script.left.now run.new.script.left.now }
     {
-        while let Some(line) = script.next_line() {
-            match self.obey(rt, out, sheet, line) {
+        while let Some(line) = run.script.next_line() {
+            match self.obey(run.rt, &mut run.out, sheet, line) {
                 Ok(None) => {}
                 Ok(Some(stop)) => return Ok(Some(stop)),
-                Err(fault) => report(out, script.number(), fault)?,
+                Err(fault) => report(&mut run.out, run.script.number(), fault)?,
             }
         }
         Ok(None)

@@ -1,9 +1,10 @@
 // A script as sessions, one behind the other.
 ghost use Rattle.replay.specs.Lines.{ShorterIfSome};
 
+use crate::replaying::Replay;
 use crate::session::{Session, Stop};
-use answers::{Output, report};
-use scripts::{Line, Misfit, Script, ScriptValue, ValueKind, line_of, words_of};
+use answers::report;
+use scripts::{Line, Misfit, ScriptValue, ValueKind, line_of, words_of};
 use sheets::{LoadError, Sheet};
 use std::alloc::{AllocError, Global};
 use std::io;
@@ -22,16 +23,13 @@ fn opening(heap: Global, line: &[u8]) -> Result<Option<ValueKind>, Misfit> {
 }
 
 // Goes to the first line that begins a session.
-fn first_session(
-    heap: Global,
-    out: &mut Output,
-    script: &mut Script,
-) -> io::Result<Option<ValueKind>> {
-    while let Some(line) = script.next_line() {
+fn first_session(run: &mut Replay) -> io::Result<Option<ValueKind>> {
+    let heap = run.rt.alloc();
+    while let Some(line) = run.script.next_line() {
         match opening(heap, line) {
             Ok(None) => {}
             Ok(Some(kind)) => return Ok(Some(kind)),
-            Err(misfit) => report(out, script.number(), misfit.into())?,
+            Err(misfit) => report(&mut run.out, run.script.number(), misfit.into())?,
         }
     }
     Ok(None)
@@ -51,32 +49,26 @@ fn stand<'a, V: Copy>(
 
 // Runs a session under the sheet that stands on some tables.
 fn run_on<V: ScriptValue + Bucketed>(
-    rt: &HostRuntime,
-    out: &mut Output,
-    script: &mut Script,
+    run: &mut Replay,
     session: &mut Session<V>,
     tables: &Tables<V>,
 ) -> io::Result<Option<Stop<V>>>
-    ensures { ShorterIfSome result script.old.left.now script.new.left.now }
+    ensures { ShorterIfSome result run.old.script.left.now run.new.script.left.now }
 {
-    let heap = rt.alloc();
+    let heap = run.rt.alloc();
     let mut sheet = Sheet::new(heap);
     stand(heap, tables, &mut sheet)?;
-    session.run(rt, out, script, &sheet)
+    session.run(run, &sheet)
 }
 
 // Runs a session over one kind of value, and answers which one comes behind it. The sheet stands on a copy of the session's tables, which is kept unchanged until another is loaded.
-fn session<V: ScriptValue + Bucketed>(
-    rt: &HostRuntime,
-    out: &mut Output,
-    script: &mut Script,
-) -> io::Result<Option<ValueKind>>
-    ensures { ShorterIfSome result script.old.left.now script.new.left.now }
+fn session<V: ScriptValue + Bucketed>(run: &mut Replay) -> io::Result<Option<ValueKind>>
+    ensures { ShorterIfSome result run.old.script.left.now run.new.script.left.now }
 {
-    let heap = rt.alloc();
+    let heap = run.rt.alloc();
     let mut session = Session::<V>::new(heap);
     let mut standing = Tables::new(heap);
-    while let Some(stop) = run_on(rt, out, script, &mut session, &standing)? {
+    while let Some(stop) = run_on(run, &mut session, &standing)? {
         match stop {
             Stop::Loaded(tables) => standing = tables,
             Stop::Session(kind) => return Ok(Some(kind)),
@@ -86,26 +78,21 @@ fn session<V: ScriptValue + Bucketed>(
 }
 
 // Runs a session, and answers which one comes behind it.
-fn session_of(
-    rt: &HostRuntime,
-    out: &mut Output,
-    script: &mut Script,
-    kind: ValueKind,
-) -> io::Result<Option<ValueKind>>
-    ensures { ShorterIfSome result script.old.left.now script.new.left.now }
+fn session_of(run: &mut Replay, kind: ValueKind) -> io::Result<Option<ValueKind>>
+    ensures { ShorterIfSome result run.old.script.left.now run.new.script.left.now }
 {
-    writeln!(out, "sheet {kind}")?;
+    writeln!(run.out, "sheet {kind}")?;
     match kind {
-        ValueKind::Numbers => session::<Number>(rt, out, script),
-        ValueKind::References => session::<Reference>(rt, out, script),
+        ValueKind::Numbers => session::<Number>(run),
+        ValueKind::References => session::<Reference>(run),
     }
 }
 
 // Runs a script to its end.
-pub fn replay(rt: &HostRuntime, out: &mut Output, script: &mut Script) -> io::Result<()> {
-    let mut next = first_session(rt.alloc(), out, script)?;
+pub fn replay(run: &mut Replay) -> io::Result<()> {
+    let mut next = first_session(run)?;
     while let Some(kind) = next {
-        next = session_of(rt, out, script, kind)?;
+        next = session_of(run, kind)?;
     }
     Ok(())
 }
