@@ -102,3 +102,6 @@ kept-passes t j (x ∷ xs) =
     (λ (e : t x ≡ true). rw e (λ h. ⊎_elim (λ (k : j ≡ x). rw k e) (λ n. kept-passes t j xs (omega (arith, times-other j x (kept t xs) n))) (cases_eq j x)))
     (λ (e : t x ≡ false). rw e (kept-passes t j xs))
     (cases_Bool (t x))
+
+pub front-back : (p : ℕ → Ordering) (xs : List ℕ) → front p xs ++ back p xs ≡ xs
+front-back p xs = take-append-drop (leading p xs) xs

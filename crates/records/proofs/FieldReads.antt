@@ -41,6 +41,9 @@ module _ {V : Type 0} (reads : List ℕ → Reading V) where
     pub so_far : fields_at reads 8 map s start ≡ before reads (take i (fields_of e)) (fields_at reads (8 - i) left s at)
 
   module _ (s : List ℕ) (kind map start : ℕ) where
+    pub come-none : start ≤ length s → Come s kind map start 0 map start (event_of kind [])
+    come-none h = record { kept = refl; room = h; so_far = before-nil _ }
+
     module _ (i left at : ℕ) (e : Event V) (h : i < 8) (c : Come s kind map start i left at e) where
       abbrev others : ℕ → Reading (List (Option V))
       others q = fields_at reads (8 - (i + 1)) (left / 2) s q

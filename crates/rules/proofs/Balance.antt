@@ -158,6 +158,18 @@ module _ {V : Type 0} (K : ValueKind V) (T : TotalOrder K.order) where
         or-false true = refl
         or-false false = refl
 
+    -- the size of the new set
+    pub new-size : length (moved Asked ms) + length F
+        ≡ length (repeated K F (moved Asked ms)) + length (gone K ms F) + length (new_set K ms F)
+    new-size =
+        let c1 = count-all (moved Asked ms) in
+        let c2 = count-all F in
+        let c3 = count-all (repeated K F (moved Asked ms)) in
+        let c4 = count-all (gone K ms F) in
+        let c5 = count-all (new_set K ms F) in
+        let all = came-and-went (λ x. true) in
+        omega arith
+
     -- and what it adds to each count of a name
     pub balanced-event : (n : ℕ) → count_added K Asks n ms F + how_many (named n) F
         ≡ count_added K Repeats n ms F + count_added K FiredOut n ms F + count_added K LapsedOut n ms F + count_added K StruckOut n ms F

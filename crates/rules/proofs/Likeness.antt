@@ -1,5 +1,5 @@
 -- Books that are alike.
-use Rattle.std.proofs.Common.{◌≡◌, ℕ, zero, suc, List, get_or, replicate, refl, ap, ◌∙◌}
+use Rattle.std.proofs.Common.{◌≡◌, ℕ, zero, suc, List, get_or, replicate, sym, refl, ap, ◌∙◌}
 use Rattle.items.specs.declared.item.Item.{Item}
 use Rattle.rules.specs.Book.{Alike, BookModel, book_of, count_in, made_book}
 use Rattle.rules.specs.Tallies.{no_tally}
@@ -17,6 +17,15 @@ module _ {V : Type 0} where
     items = p.items ∙ q.items;
     limit = p.limit ∙ q.limit;
     counts = λ k n l. p.counts k n l ∙ q.counts k n l;
+  }
+
+  pub alike-back : (a b : BookModel V) → Alike a b → Alike b a
+  alike-back a b p = record {
+    phase = sym p.phase;
+    accepted = sym p.accepted;
+    items = sym p.items;
+    limit = sym p.limit;
+    counts = λ k n l. sym (p.counts k n l);
   }
 
 none-counted : (c : Count) → count_in no_tally c ≡ 0

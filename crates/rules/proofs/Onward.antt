@@ -127,3 +127,10 @@ so_far_more n m front a roll rest =
     let q : m + (a.findings + rest.back.findings) ≡ (m + a.findings) + rest.back.findings = omega arith in
     let r : front ++ (take a.findings roll ++ rest.roll) ≡ (front ++ take a.findings roll) ++ rest.roll = sym (append_assoc front (take a.findings roll) rest.roll) in
     λ i. record { back = batched (p i) (q i) rest.back.refusal; pad = rest.pad; roll = r i; book = rest.book }
+
+-- before the first one
+pub so-far-none : {V : Type 0} (o : EventOutcome V Batched) → so_far 0 0 [] o ≡ o
+so-far-none o =
+    let p : 0 + o.back.accepted ≡ o.back.accepted = omega arith in
+    let q : 0 + o.back.findings ≡ o.back.findings = omega arith in
+    λ i. record { back = batched (p i) (q i) o.back.refusal; pad = o.pad; roll = o.roll; book = o.book }

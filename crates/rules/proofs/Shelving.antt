@@ -16,7 +16,7 @@ use Rattle.rules.specs.Step.{caused_by, moved, moved_by, taken, with_all}
 use Rattle.rules.specs.declared.moves.Cause.{Cause}
 use Rattle.rules.specs.declared.moves.Cause.TheVariants.{Fired, Lapsed, Asked, Struck}
 use Rattle.rules.specs.declared.moves.Move.{Move}
-use Rattle.rules.proofs.Lists.{kept-alike}
+use Rattle.rules.proofs.Lists.{all-each, kept-alike}
 use Rattle.rules.proofs.Sets.{Rising, same}
 
 and-true : (b : Bool) → b ≡ (b && true)
@@ -184,6 +184,32 @@ module _ {V : Type 0} (K : ValueKind V) (T : TotalOrder K.order) where
       go Struck false false true e = refl
       go Struck false false false true = refl
       go Struck false false false false = refl
+
+  -- the shelf after one more move: its item is removed if it is taken
+  module _ (ms : List (Move V)) (m : Move V) (F : List (Item V)) (a : ascends (item_order K.order) F ≡ true) where
+    pub removed-more : takes m.cause ≡ true
+        → without (item_order K.order) m.item (kept (λ x. not (taken K ms x)) F) ≡ kept (λ x. not (taken K (ms ++ m ∷ []) x)) F
+    removed-more h =
+        kept-without (item-total T) (λ x. not (taken K ms x)) m.item F (ascends-rising (item-total T) F a)
+        ∙ kept-alike (λ x. not (taken K ms x) && not (same (item_order K.order) x m.item)) (λ x. not (taken K (ms ++ m ∷ []) x)) F (all-each (λ x. (not (taken K ms x) && not (same (item_order K.order) x m.item)) ≡ not (taken K (ms ++ m ∷ []) x)) (λ x. both (taken K ms x) (same (item_order K.order) x m.item) ∙ sym (ap not (taken_more ms m x ∙ ap (λ b. taken K ms x || (b && same (item_order K.order) x m.item)) h))) F)
+      where
+        both : (b c : Bool) → (not b && not c) ≡ not (b || c)
+        both true c = refl
+        both false c = refl
+
+    pub removed-none : takes m.cause ≡ false → kept (λ x. not (taken K ms x)) F ≡ kept (λ x. not (taken K (ms ++ m ∷ []) x)) F
+    removed-none h =
+        kept-alike (λ x. not (taken K ms x)) (λ x. not (taken K (ms ++ m ∷ []) x)) F
+        (all-each
+        (λ x. not (taken K ms x) ≡ not (taken K (ms ++ m ∷ []) x))
+        (λ x.
+        ap not
+        (same-either (taken K ms x) ∙ sym (taken_more ms m x ∙ ap (λ b. taken K ms x || (b && same (item_order K.order) x m.item)) h)))
+        F)
+      where
+        same-either : (b : Bool) → b ≡ (b || false)
+        same-either true = refl
+        same-either false = refl
 
   -- where there is room for the set with the item, `add` puts it in or finds it there
   pub add-places : (l : ℕ) (x : Item V) (xs : List (Item V)) → ascends (item_order K.order) xs ≡ true

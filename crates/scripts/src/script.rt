@@ -51,6 +51,13 @@ impl<'a> Script<'a> {
         self.given
     }
 
+    // There are at most so many lines to come.
+    pub fn most_lines(&self) -> usize
+        ensures { result ≡ length self.now.left.now }
+    {
+        self.left.len()
+    }
+
     // The next line, without its end. What stands behind the last line end is a line, unless it is empty.
     pub fn next_line(&mut self) -> Option<&'a [u8]>
         ensures test { is_some result ≡ nat_lt 0 (length self.old.left.now) }

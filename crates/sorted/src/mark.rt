@@ -1,5 +1,6 @@
 // What is looked for among the items, and where an item stands against it.
 ghost use Rattle.std.specs.Prelude.{◌≡◌};
+ghost use Rattle.std.specs.Ordering.{is_lt};
 ghost use Rattle.items.specs.Ascending.{met};
 ghost use Rattle.sorted.specs.Place.{above_place, place_of};
 
@@ -30,13 +31,22 @@ impl<V: Value> Mark<V> {
         ensures { result ≡ place_of V.Ord.cmp self.now item.now }
     {
         match *self {
-            Mark::At(x) => item.cmp(&x),
-            Mark::Among(name, first, above) => item
-                .name
-                .cmp(&name)
-                .then(first.map_or(Ordering::Equal, |f| item.first.cmp(&f)))
-                .then(above_place(above, item)),
+            Mark::At(x) => item.compare(&x),
+            Mark::Among(name, first, above) => match item.name.cmp(&name) {
+                Ordering::Equal => match first.map_or(Ordering::Equal, |f| item.first.cmp(&f)) {
+                    Ordering::Equal => above_place(above, item),
+                    place => place,
+                },
+                place => place,
+            },
         }
+    }
+
+    // Whether an item stands before what is looked for.
+    pub fn passes(&self, item: &Item<V>) -> bool
+        ensures { result ≡ is_lt (place_of V.Ord.cmp self.now item.now) }
+    {
+        self.place(item).is_lt()
     }
 
     // The item, if there is one and it meets the mark.

@@ -67,11 +67,24 @@ impl<V: Copy> Tables<V> {
         })
     }
 
+    // What they say of each event kind.
+    fn kinds(&self) -> [EventKind; KINDS]
+        ensures { result ≡ self.now.kinds }
+    {
+        self.kinds
+    }
+
     // Loads the tables into a sheet. A load that fails leaves the sheet as it was.
     pub fn load<'a>(&'a self, heap: Global, sheet: &mut Sheet<'a, V>) -> Result<(), LoadError>
         ensures answer { Loads result (load_refusal (tables_of self.now).states (tables_of self.now).rows (tables_of self.now).kinds (length (tables_of self.now).constants)) }
         ensures sheet { view_of sheet.new ≡ (if is_ok result then tables_of self.now else view_of sheet.old) }
     {
-        sheet.load(heap, &self.states, &self.rows, &self.kinds, &self.constants)
+        sheet.load(
+            heap,
+            &self.states,
+            &self.rows,
+            &self.kinds(),
+            &self.constants,
+        )
     }
 }

@@ -59,11 +59,15 @@ impl Number {
 }
 
 impl Value for Number {
+    ghost order = { number_order };
+
     ghost blank = { number_is 0 };
 
     ghost written = { number_written };
 
     ghost reads = { number_reads };
+
+    ghost ordered = { Prim.search rules };
 
     ghost total = { Prim.search rules };
 

@@ -45,24 +45,35 @@ impl Reference {
         ensures words { result ≡ reference_order self.now other.now }
         ensures bytes { result ≡ by_bytes (row_of self.now) (row_of other.now) }
     {
-        compare_words(*self, *other)
+        compare_rows(*self, *other)
     }
 }
 
-// The derived order, which is that of the words, is that of the bytes.
+// The derived order is that of the words.
 fn compare_words(x: Reference, y: Reference) -> Ordering
-    ensures words { result ≡ reference_order x y }
-    ensures bytes { result ≡ by_bytes (row_of x) (row_of y) }
+    ensures { result ≡ reference_order x y }
 {
     x.cmp(&y)
 }
 
+// The order of the words is that of the bytes, from the first on.
+fn compare_rows(x: Reference, y: Reference) -> Ordering
+    ensures words { result ≡ reference_order x y }
+    ensures bytes { result ≡ by_bytes (row_of x) (row_of y) }
+{
+    compare_words(x, y)
+}
+
 impl Value for Reference {
+    ghost order = { reference_order };
+
     ghost blank = { reference_is 0 0 };
 
     ghost written = { reference_written };
 
     ghost reads = { reference_reads };
+
+    ghost ordered = { Prim.search rules };
 
     ghost total = { Prim.search rules };
 

@@ -1,11 +1,15 @@
 // Kinds of value.
 ghost use Rattle.std.specs.Prelude.{◌≡◌, ℕ, ◌<◌, ◌≤◌, true, List, length, is_some, Option};
+ghost use Rattle.std.specs.declared.cmp.Ordering.{Ordering};
 ghost use Rattle.std.specs.Option.{option_map};
 ghost use Rattle.values.specs.Order.{TotalOrder};
 ghost use Rattle.values.specs.Form.{Reading, WrittenForm, bytes_in, filled};
 
 // A kind of value: what the fields of an event and the items of a shelf hold.
 pub trait Value: Copy + Ord {
+    // Whether a value is less than, equal to or greater than another.
+    ghost order: { Self → Self → Ordering };
+
     // The value that stands where there is none.
     ghost blank: { Self };
 
@@ -32,6 +36,9 @@ pub trait Value: Copy + Ord {
         requires { (is_some (written self.now) ≡ true) × (length (bytes_in (written self.now)) ≤ length buffer.old) }
         ensures count { result ≡ length (bytes_in (written self.now)) }
         ensures bytes { buffer.new ≡ filled (bytes_in (written self.now)) buffer.old };
+
+    // Values are compared in that order.
+    ghost ordered: { (x y : Self) → Self.Ord.cmp x y ≡ order x y };
 
     // Equal values are the same value.
     ghost total: { TotalOrder Self.Ord.cmp };

@@ -37,7 +37,7 @@ impl<V: Value> SortedShelf<V> {
     fn seek(&self, mark: &Mark<V>) -> usize
         ensures { result ≡ leading (place_of V.Ord.cmp mark.now) (sorted_items self.now) }
     {
-        self.cells.partition_point(|item| mark.place(item).is_lt())
+        self.cells.partition_point(|item| mark.passes(item))
     }
 
     // The item right after those that stand before the mark, if the mark meets it.

@@ -9,5 +9,6 @@ returns-clause-answer g c =
     let p = c.deref.ensures.value in
     let q = c.deref-2.ensures.value in
     let r = c.deref-3.ensures.value in
-    let same : load_refusal c.deref.result.now c.deref-2.result.now t.kinds (length c.deref-3.result.now) ≡ load_refusal (vec_items t.states) (vec_items t.rows) t.kinds (length (vec_items t.constants)) = cc in
+    let k = c.kinds.ensures in
+    let same : load_refusal c.deref.result.now c.deref-2.result.now c.kinds.result (length c.deref-3.result.now) ≡ load_refusal (vec_items t.states) (vec_items t.rows) t.kinds (length (vec_items t.constants)) = cc in
     subst (Loads c.load.result) same c.load.ensures.answer
